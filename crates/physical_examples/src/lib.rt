@@ -1,0 +1,78 @@
+// Memories in use, with what comes out proved.
+ghost use mathlib.Core.Path.{_≡_};
+ghost use mathlib.Core.Bool.{true};
+ghost use Rattle.std.specs.declared.result.Result.the-variants.{Ok, Err};
+ghost use Rattle.physical.specs.Bytes.{laid-checked};
+ghost use Rattle.physical.specs.Stores.{dword, write-answer};
+ghost use Rattle.physical.specs.Writes.{after-writes};
+ghost use Rattle.physical_examples.specs.Owner.{everywhere, poked};
+ghost use Rattle.physical.specs.declared.MemoryError.the-variants.{Absent, ReadOnly};
+use physical::Memory;
+use physical::MemoryError;
+use physical::MemoryErrorDebug;
+use physical::MemoryErrorPartialEq;
+use physical::ReadableStore;
+use physical::WriteOutcome;
+use physical::composed::Pair;
+use physical::composed::PairMemory;
+use physical::composed::PairStore;
+use physical::composed::Shift;
+use physical::composed::ShiftMemory;
+use physical::composed::ShiftStore;
+use physical::lent::Ram;
+use physical::lent::RamMemory;
+use physical::lent::RamStore;
+use physical::lent::Rom;
+use physical::lent::RomMemory;
+use physical::lent::RomStore;
+use physical::writes::Write;
+use physical::writes::write_all;
+
+// What was seen of a composition.
+#[derive(Clone, Copy, PartialEq, Eq, Debug)]
+pub struct Seen {
+    pub rom: Result<u32, MemoryError>,
+    pub rom_write: WriteOutcome,
+    pub ram_write: WriteOutcome,
+    pub ram: Result<u32, MemoryError>,
+    pub beyond: Result<u32, MemoryError>,
+}
+
+// Three deep: a pair of a ROM and a shifted RAM. The ROM's frame lies at 0, the RAM's at 8,192, nothing between.
+pub fn rom_below_ram() -> Seen
+    ensures { λ r. ⌜ r ≡ record { rom = Ok 0x5a5a5a5a; «rom_write» = Err ReadOnly; «ram_write» = Ok tt; ram = Ok 0x11223344; beyond = Err Absent } ⌝ }
+{
+    let rom = [0x5au8; 4096];
+    let mut ram = [0u8; 4096];
+    let mut memory = Pair::new(
+        0x2000,
+        Rom::new(0, &rom),
+        Shift::new(0x2000, Ram::new(0, &mut ram)),
+    );
+    let rom_write = memory.write(0x0ffc, 7);
+    let ram_write = memory.write(0x2004, 0x1122_3344);
+    Seen {
+        rom: memory.read(0x0ffc),
+        rom_write,
+        ram_write,
+        ram: memory.read(0x2006),
+        beyond: memory.read(0x1000),
+    }
+}
+
+// One write through a RAM that is gone afterwards: what the owner of the bytes then has.
+pub fn poke(bytes: &mut [u8], start: u32, address: u32, value: u32) -> WriteOutcome
+    ensures answers { λ r. ⌜ r ≡ write-answer (laid-checked start (now (bytes .entry)) (dword address)) true ⌝ }
+    ensures bytes { λ _. ⌜ now (bytes .exit) ≡ poked start (now (bytes .entry)) address value ⌝ }
+{
+    let mut ram = Ram::new(start, bytes);
+    ram.write(address, value)
+}
+
+// A list of writes through a RAM that is gone afterwards, made by code that knows only that it is a memory.
+pub fn poke_all(bytes: &mut [u8], start: u32, writes: &[Write]) -> usize
+    ensures { λ _. ⌜ laid-checked start (now (bytes .exit)) ≡ after-writes (laid-checked start (now (bytes .entry))) everywhere (now (writes .entry)) ⌝ }
+{
+    let mut ram = Ram::new(start, bytes);
+    write_all(&mut ram, writes)
+}
