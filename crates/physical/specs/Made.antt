@@ -1,5 +1,5 @@
 -- What the stores over lent bytes hold.
-use mathlib.Core.Bool.{Bool, true, false, cond}
+use mathlib.Core.Bool.{Bool, true, false, cond, _&&_}
 use mathlib.Core.List.{List}
 use denote.Ref.{now, name}
 use Prim.Native.Nat.{ℕ, _-_, _*_}
@@ -7,11 +7,15 @@ use lib.ListN.{length}
 use Rattle.std.specs.Options.{isSome}
 use Rattle.physical.specs.Stores.{Values, Writable, dword}
 use Rattle.physical.specs.Loans.{Loans, slice}
-use Rattle.physical.specs.Bytes.{absent, laid, stored}
-use Rattle.physical.specs.declared.lent.Range.{Range}
-use Rattle.physical.specs.declared.lent.Ram.{Ram}
-use Rattle.physical.specs.declared.lent.Rom.{Rom}
-use Rattle.physical.specs.declared.lent.Dump.{Dump}
+use Rattle.physical.specs.Bytes.{absent, covers, laid, stored}
+use Rattle.physical.specs.declared.range.Range.{Range}
+use Rattle.physical.specs.declared.ram.Ram.{Ram}
+use Rattle.physical.specs.declared.rom.Rom.{Rom}
+use Rattle.physical.specs.declared.dump.Dump.{Dump}
+
+-- n bytes in the range have the double-word q
+abbrev pub covered : Range → ℕ → ℕ → Bool
+covered r n q = r .used && covers (r .start) n q
 
 -- the double-words of bs from the start of the range on, if the range is used
 abbrev pub ranged : Range → List ℕ → Values

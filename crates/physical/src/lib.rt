@@ -4,8 +4,12 @@ ghost use Rattle.physical.specs.Loans.{Loans, none};
 ghost use Rattle.physical.specs.Stores.{Values, Writable, dword, read-answer, reason-number, write-answer, written};
 
 pub mod checks;
-pub mod composed;
-pub mod lent;
+pub mod dump;
+pub mod pair;
+pub mod ram;
+mod range;
+pub mod rom;
+pub mod shift;
 pub mod writes;
 
 // Why a memory refuses a read or a write.

@@ -1,9 +1,7 @@
-// Stores made of stores: a pair split at an address, and a store moved up.
+// A pair of stores: the first below the split, the second from it on.
 ghost use mathlib.Core.Path.{_≡_};
-ghost use mathlib.Core.Bool.{false};
-ghost use Rattle.std.specs.declared.option.Option.the-variants.{None as Nothing};
 ghost use Rattle.physical.specs.Checks.{boundary-dword};
-ghost use Rattle.physical.specs.Composed.{paired, shifted};
+ghost use Rattle.physical.specs.Composed.{paired};
 ghost use Rattle.physical.specs.Loans.{both};
 use crate::Memory;
 use crate::MemoryError;
@@ -12,7 +10,6 @@ use crate::WriteOutcome;
 use crate::checks::boundary;
 use crate::dword_number;
 
-// The first store below the split, the second from it on.
 #[derive(Drop)]
 pub struct Pair<A, B> {
     first: A,
@@ -56,50 +53,5 @@ pub impl<A: Memory, B: Memory> Memory for Pair<A, B> as PairMemory {
         } else {
             self.second.write(address, value)
         }
-    }
-}
-
-// A store moved up: absent below the distance, and the store's address 0 at it.
-#[derive(Drop)]
-pub struct Shift<S> {
-    inner: S,
-    // By how many double-words.
-    distance: u32,
-}
-
-impl<S> Shift<S> {
-    pub fn new(distance: u32, inner: S) -> Shift<S>
-        ensures { λ r. ⌜ r ≡ record { inner = inner; distance = boundary-dword distance } ⌝ }
-    {
-        Shift {
-            inner,
-            distance: boundary(distance),
-        }
-    }
-}
-
-pub impl<S: ReadableStore> ReadableStore for Shift<S> as ShiftStore {
-    ghost values = { λ s. shifted (s .distance) Nothing (S·ReadableStore .values (s .inner)) };
-
-    fn read(&self, address: u32) -> Result<u32, MemoryError> {
-        let number = dword_number(address);
-        if number < self.distance {
-            return Err(MemoryError::Absent);
-        }
-        self.inner.read((number - self.distance) * 4)
-    }
-}
-
-pub impl<S: Memory> Memory for Shift<S> as ShiftMemory {
-    ghost writable = { λ s. shifted (s .distance) false (S·Memory .writable (s .inner)) };
-
-    ghost loans = { λ s. S·Memory .loans (s .inner) };
-
-    fn write(&mut self, address: u32, value: u32) -> WriteOutcome {
-        let number = dword_number(address);
-        if number < self.distance {
-            return Err(MemoryError::Absent);
-        }
-        self.inner.write((number - self.distance) * 4, value)
     }
 }

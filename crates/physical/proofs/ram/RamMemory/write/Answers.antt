@@ -3,7 +3,7 @@ use Rattle.physical.specs.Stores.{dword}
 use Rattle.physical.specs.Made.{ranged}
 use Rattle.physical.proofs.Blocks.{length-stored, store-answers, store-bytes, store-leaves}
 use Rattle.physical.specs.Loans.{slice}
-use Rattle.physical.proofs.lent.RamMemory.write.Needs as need
+use Rattle.physical.proofs.ram.RamMemory.write.Needs as need
 
 pub returns : need.returns
 returns c =
