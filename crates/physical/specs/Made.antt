@@ -21,19 +21,25 @@ covered r n q = r .used && covers (r .start) n q
 abbrev pub ranged : Range → List ℕ → Values
 ranged r bs = cond (r .used) (laid (r .start) bs) absent
 
+-- the bytes after a write: where the double-word is present its four, and all others as they were
+abbrev pub range-stored : Range → List ℕ → ℕ → ℕ → List ℕ
+range-stored r bs address v = cond (isSome (ranged r bs (dword address))) (stored bs (dword address * 4 - r .start) v) bs
+
+-- every double-word can be written
+abbrev pub everywhere : Writable
+everywhere q = true
+
 abbrev pub ram-values : Ram → Values
 ram-values s = ranged (s .range) (now (s .bytes))
 
 abbrev pub ram-writable : Ram → Writable
-ram-writable s q = true
+ram-writable s = everywhere
 
 abbrev pub ram-loans : Ram → Loans
 ram-loans s = slice (name (s .bytes)) (length (now (s .bytes))) (s .range .start) (s .range .used)
 
--- the bytes of a RAM after a write: the four of the double-word, and all others as they were
 abbrev pub ram-stored : Ram → ℕ → ℕ → List ℕ
-ram-stored s address v =
-    cond (isSome (ram-values s (dword address))) (stored (now (s .bytes)) (dword address * 4 - s .range .start) v) (now (s .bytes))
+ram-stored s address v = range-stored (s .range) (now (s .bytes)) address v
 
 abbrev pub rom-values : Rom → Values
 rom-values s = ranged (s .range) (now (s .bytes))

@@ -13,7 +13,6 @@ use crate::MemoryError;
 use crate::ReadableStore;
 use crate::WriteOutcome;
 use crate::range::Range;
-use crate::range::store;
 
 #[derive(Drop)]
 pub struct Ram<'a> {
@@ -55,11 +54,7 @@ pub impl<'a> Memory for Ram<'a> as RamMemory {
         ensures bytes { λ _. ⌜ now (now (self .exit) .bytes) ≡ ram-stored (now (self .entry)) address value ⌝ }
         ensures named { λ _. ⌜ name (now (self .exit) .bytes) ≡ name (now (self .entry) .bytes) ⌝ }
     {
-        let length = self.bytes.len();
-        let Some(i) = self.range.find(length, address) else {
-            return Err(MemoryError::Absent);
-        };
-        store(self.bytes, i, value);
-        Ok(())
+        let range = self.range;
+        range.write(self.bytes, address, value)
     }
 }

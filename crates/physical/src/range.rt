@@ -7,9 +7,10 @@ ghost use lib.ListN.{length};
 ghost use Rattle.std.specs.Options.{Cases as BySome};
 ghost use Rattle.physical.specs.Bytes.{dword-at, stored};
 ghost use Rattle.physical.specs.Checks.{range-rule};
-ghost use Rattle.physical.specs.Made.{covered, ranged};
-ghost use Rattle.physical.specs.Stores.{dword, read-answer};
+ghost use Rattle.physical.specs.Made.{covered, everywhere, range-stored, ranged};
+ghost use Rattle.physical.specs.Stores.{dword, read-answer, write-answer, written};
 use crate::MemoryError;
+use crate::WriteOutcome;
 use crate::checks::check_range;
 use crate::dword_number;
 
@@ -58,6 +59,19 @@ impl Range {
         };
         Ok(load(bytes, i))
     }
+
+    // Replaces the double-word at the address, where the bytes have it.
+    pub(crate) fn write(&self, bytes: &mut [u8], address: u32, value: u32) -> WriteOutcome
+        ensures answers { λ r. ⌜ r ≡ write-answer (ranged (now (self .entry)) (now (bytes .entry)) (dword address)) true ⌝ }
+        ensures leaves { λ _. ⌜ ranged (now (self .entry)) (now (bytes .exit)) ≡ written (ranged (now (self .entry)) (now (bytes .entry))) everywhere (dword address) value ⌝ }
+        ensures stores { λ _. ⌜ now (bytes .exit) ≡ range-stored (now (self .entry)) (now (bytes .entry)) address value ⌝ }
+    {
+        let Some(i) = self.find(bytes.len(), address) else {
+            return Err(MemoryError::Absent);
+        };
+        store(bytes, i, value);
+        Ok(())
+    }
 }
 
 // The double-word whose lowest byte is the one at i.
@@ -69,7 +83,7 @@ fn load(bytes: &[u8], i: usize) -> u32
 }
 
 // Makes the four bytes from i on those of the value.
-pub(crate) fn store(bytes: &mut [u8], i: usize, value: u32)
+fn store(bytes: &mut [u8], i: usize, value: u32)
     requires { ⌜ i + 4 ≤ length (now bytes) ⌝ }
     ensures { λ _. ⌜ now (bytes .exit) ≡ stored (now (bytes .entry)) i value ⌝ }
 {

@@ -1,0 +1,4 @@
+pub mod Bitwise
+pub mod Marking
+pub mod Laws
+pub mod Codec
