@@ -3,7 +3,7 @@ use mathlib.Core.Path.{_≡_, refl, sym, ap, ap₂, _∙_}
 use mathlib.Core.Bool.{not}
 use mathlib.Core.Logic.{inl, inr}
 use Prim.Native.Nat.{ℕ, zero, suc, _+_, _-_, _*_, _/_, _%_, _^_, _<_, min}
-use native.Mathlib.Nat.{div-one, div-eq-of-lt, mod-lt, mod-mod, min-zero, sub-add-cancel}
+use native.Mathlib.Nat.{div-one, div-eq-of-lt, mod-mod, min-zero}
 use native.Mathlib.Omega.{arith}
 use lib.Arith.{bin-ind}
 use lib.Bits.{bitAnd, bitOr, and-step, and-zero-r, and-high, or-zero-r}
@@ -26,8 +26,14 @@ and-field low width a b = ap (λ x. x % 2 ^ width) (and-shr a b low) ∙ and-mod
 pub beside : (low width a b : ℕ) → field low width b ≡ 0 → field low width (bitOr a b) ≡ field low width a
 beside low width a b none = or-field low width a b ∙ ap (bitOr (field low width a)) none ∙ or-zero-r (field low width a)
 
-pub bit-below : (k a : ℕ) → bit k a < 2
-bit-below k a = omega arith
+-- what holds of 0 and of 1 holds of a binary digit, so of each bit
+digit : (P : ℕ → Type 0) → P 0 → P 1 → (d : ℕ) → d < 2 → P d
+digit P off on zero h = off
+digit P off on (suc zero) h = on
+digit P off on (suc (suc d)) h = absurd (omega arith)
+
+pub by-bit : (P : ℕ → Type 0) → P 0 → P 1 → (k a : ℕ) → P (bit k a)
+by-bit P off on k a = digit P off on (bit k a) (omega arith)
 
 -- a power of two has one bit set, and no other
 pub own-bit : (k : ℕ) → bit k (2 ^ k) ≡ 1
@@ -50,12 +56,9 @@ and-bit a k = ap (bitAnd a) (omega (arith, pow-add 2 1 k)) ∙ and-high a 1 k
 
 -- a test against one bit is the flag
 pub flag-test : (a k : ℕ) → not (eqb (bitAnd a (2 ^ k)) 0) ≡ flag k a
-flag-test a k = ap (λ x. not (eqb x 0)) (and-bit a k) ∙ digit-test (bit k a) (2 ^ k) (bit-below k a) (pow-pos k)
-  where
-    digit-test : (d place : ℕ) → d < 2 → 0 < place → not (eqb (d * place) 0) ≡ eqb d 1
-    digit-test zero place h pos = grind (arith, tells)
-    digit-test (suc zero) place h pos = grind (arith, tells)
-    digit-test (suc (suc d)) place h pos = absurd (omega arith)
+flag-test a k =
+    ap (λ x. not (eqb x 0)) (and-bit a k)
+    ∙ by-bit (λ d. not (eqb (d * 2 ^ k) 0) ≡ eqb d 1) (grind (arith, tells)) (grind (arith, tells, pow-pos k)) k a
 
 -- bit k of a half is the next bit of the whole
 half-bit : (k a : ℕ) → bit k (a / 2) ≡ bit (1 + k) a
@@ -63,19 +66,17 @@ half-bit k a = ap (λ x. x % 2) (shr-shr a 1 k)
 
 -- numbers that are equal in every bit under the mask are equal under it, and the other way round
 pub agree-masked : (a b mask : ℕ) → Agrees a b mask → bitAnd a mask ≡ bitAnd b mask
-agree-masked a b mask = bin-ind (λ m. (a b : ℕ) → Agrees a b m → bitAnd a m ≡ bitAnd b m) (λ a b h. and-zero-r a ∙ sym (and-zero-r b)) more mask a b
+agree-masked a b mask = bin-ind Same (λ a b h. and-zero-r a ∙ sym (and-zero-r b)) more mask a b
   where
-    lowest : (x y d : ℕ) → d < 2 → (d ≡ 1 → x ≡ y) → min x d ≡ min y d
-    lowest x y zero h e = min-zero x ∙ sym (min-zero y)
-    lowest x y (suc zero) h e = ap (λ n. min n 1) (e refl)
-    lowest x y (suc (suc d)) h e = absurd (omega arith)
+    Same : ℕ → Type 0
+    Same m = (a b : ℕ) → Agrees a b m → bitAnd a m ≡ bitAnd b m
 
-    more : (m : ℕ) → ((a b : ℕ) → Agrees a b (m / 2) → bitAnd a (m / 2) ≡ bitAnd b (m / 2)) → (a b : ℕ) → Agrees a b m → bitAnd a m ≡ bitAnd b m
+    more : (m : ℕ) → Same (m / 2) → Same m
     more m half a b h =
         let low : m % 2 ≡ 1 → a % 2 ≡ b % 2 = λ e. simp div-one at (h 0 (simp div-one e)) in
-        and-step a m
-        ∙ ap₂ (λ x y. x * 2 + y) (half (a / 2) (b / 2) (λ k e. half-bit k a ∙ h (1 + k) (sym (half-bit k m) ∙ e) ∙ sym (half-bit k b))) (lowest (a % 2) (b % 2) (m % 2) (omega arith) low)
-        ∙ sym (and-step b m)
+        let lowest = digit (λ d. (d ≡ 1 → a % 2 ≡ b % 2) → min (a % 2) d ≡ min (b % 2) d) (λ e. min-zero (a % 2) ∙ sym (min-zero (b % 2))) (λ e. ap (λ n. min n 1) (e refl)) in
+        let others = half (a / 2) (b / 2) (λ k e. half-bit k a ∙ h (1 + k) (sym (half-bit k m) ∙ e) ∙ sym (half-bit k b)) in
+        and-step a m ∙ ap₂ (λ x y. x * 2 + y) others (lowest (m % 2) (omega arith) low) ∙ sym (and-step b m)
 
 pub masked-agree : (a b mask : ℕ) → bitAnd a mask ≡ bitAnd b mask → Agrees a b mask
 masked-agree a b mask same k set = sym (under a) ∙ ap (bit k) same ∙ under b

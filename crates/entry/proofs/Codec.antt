@@ -1,7 +1,7 @@
 -- Taking an entry apart and putting it together: the two round trips, and what the code's shifts and masks compute.
 use mathlib.Core.Path.{_≡_, refl, sym, ap, _∙_}
 use mathlib.Core.Bool.{Bool, true, false, cond}
-use Prim.Native.Nat.{ℕ, zero, suc, _+_, _*_, _/_, _%_, _^_, _<_, _≤_}
+use Prim.Native.Nat.{ℕ, _+_, _*_, _/_, _%_, _^_, _<_, _≤_}
 use native.Mathlib.Nat.{add-mul, mul-assoc, mod-eq-of-lt}
 use native.Mathlib.Omega.{arith}
 use lib.Bits.{bitAnd, bitOr}
@@ -15,7 +15,7 @@ use Rattle.std.proofs.shelf.Ways.{decides-and, decides-ltb}
 use Rattle.entry.specs.Bits.{as-bit, bit, field, flag}
 use Rattle.entry.specs.Fields.{RoundTrips, entry-of, fields-of, fit}
 use Rattle.entry.specs.declared.EntryFields.{EntryFields}
-use Rattle.entry.proofs.Bitwise.{bit-below}
+use Rattle.entry.proofs.Bitwise.{by-bit}
 
 -- the test on the widths says that each field is below its limit
 abbrev Within : EntryFields → Type 0
@@ -28,12 +28,7 @@ within f =
 
 -- a flag as a number is its bit
 flag-bit : (k w : ℕ) → as-bit (flag k w) ≡ bit k w
-flag-bit k w = read (bit k w) (bit-below k w)
-  where
-    read : (d : ℕ) → d < 2 → as-bit (eqb d 1) ≡ d
-    read zero h = refl
-    read (suc zero) h = refl
-    read (suc (suc d)) h = absurd (omega arith)
+flag-bit = by-bit (λ d. as-bit (eqb d 1) ≡ d) refl refl
 
 -- what lies below a field, and the field, is what lies below its upper end
 more : {below : ℕ} (low width w : ℕ) → below ≡ w % 2 ^ low → below + field low width w * 2 ^ low ≡ w % 2 ^ (width + low)

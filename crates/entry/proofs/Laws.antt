@@ -1,4 +1,4 @@
--- The layout owes its laws, and meets them.
+-- The layout meets the laws that a walk rests on.
 use mathlib.Core.Bool.{true}
 use mathlib.Core.Path.{_≡_, refl, ap}
 use Prim.Native.Nat.{ℕ, _^_}

@@ -1,13 +1,12 @@
 -- Worked figures of the definitions, all in one statement.
 use mathlib.Core.Bool.{Bool, true, false}
 use mathlib.Core.Path.{_≡_}
-use Prim.Native.Nat.{ℕ}
 use Rattle.std.specs.declared.option.Option.the-variants.{Some}
-use Rattle.entry.specs.Fields.{encoded, fields-of}
+use Rattle.entry.specs.Fields.{fields-of}
 use Rattle.entry.specs.NS32382.{ns32382}
 use Rattle.entry.specs.Access.{access-level, effective, passes}
 use Rattle.entry.specs.Bus.{breakpoint-match, merge-answer}
-use Rattle.entry.specs.declared.TableLevel.the-variants.{First, Second}
+use Rattle.entry.specs.declared.TableLevel.the-variants.{Second}
 use Rattle.entry.specs.declared.access.Mode.the-variants.{Supervisor, User}
 use Rattle.entry.specs.declared.access.AccessKind.the-variants.{Read, Write}
 

@@ -30,6 +30,42 @@ mod tests {
     use entry::operations::valid;
     use std::test::*;
 
+    // Entries, and their fields from bit 0 up.
+    #[test]
+    fn entries_and_their_fields() -> Result<(), Fail> {
+        for (entry, valid, protection, unused, inhibit, referenced, modified, user, frame) in [
+            (0x00000000, false, 0, 0, false, false, false, 0, 0),
+            (0x00000001, true, 0, 0, false, false, false, 0, 0),
+            (0x00000002, false, 1, 0, false, false, false, 0, 0),
+            (0x00000004, false, 2, 0, false, false, false, 0, 0),
+            (0x00000008, false, 0, 1, false, false, false, 0, 0),
+            (0x00000010, false, 0, 2, false, false, false, 0, 0),
+            (0x00000020, false, 0, 4, false, false, false, 0, 0),
+            (0x00000040, false, 0, 0, true, false, false, 0, 0),
+            (0x00000080, false, 0, 0, false, true, false, 0, 0),
+            (0x00000100, false, 0, 0, false, false, true, 0, 0),
+            (0x00000200, false, 0, 0, false, false, false, 1, 0),
+            (0x00000400, false, 0, 0, false, false, false, 2, 0),
+            (0x00000800, false, 0, 0, false, false, false, 4, 0),
+            (0x00005005, true, 2, 0, false, false, false, 0, 5),
+            (0xffffffff, true, 3, 7, true, true, true, 7, 0xfffff),
+        ] {
+            let fields = EntryFields {
+                valid,
+                protection,
+                unused,
+                inhibit,
+                referenced,
+                modified,
+                user,
+                frame,
+            };
+            check_eq(EntryFields::decode(entry), fields)?;
+            check_eq(fields.encode(), Some(entry))?;
+        }
+        Ok(())
+    }
+
     const NONE: EntryFields = EntryFields {
         valid: false,
         protection: 0,
@@ -41,118 +77,43 @@ mod tests {
         frame: 0,
     };
 
-    const ALL: EntryFields = EntryFields {
-        valid: true,
-        protection: 3,
-        unused: 7,
-        inhibit: true,
-        referenced: true,
-        modified: true,
-        user: 7,
-        frame: 0xfffff,
-    };
-
-    // Taken apart the entry has these fields, and put together they are the entry.
-    fn corresponds(entry: u32, fields: EntryFields) -> Result<(), Fail> {
-        check_eq(EntryFields::decode(entry), fields)?;
-        check_eq(fields.encode(), Some(entry))
-    }
-
     #[test]
-    fn whole_entries() -> Result<(), Fail> {
-        corresponds(0, NONE)?;
-        corresponds(0xffffffff, ALL)?;
-        corresponds(
-            0x00005005,
-            EntryFields {
-                valid: true,
-                protection: 2,
-                frame: 5,
-                ..NONE
-            },
-        )
-    }
-
-    #[test]
-    fn single_bits() -> Result<(), Fail> {
-        corresponds(
-            0x001,
-            EntryFields {
-                valid: true,
-                ..NONE
-            },
-        )?;
-        corresponds(
-            0x002,
-            EntryFields {
-                protection: 1,
-                ..NONE
-            },
-        )?;
-        corresponds(
-            0x004,
-            EntryFields {
-                protection: 2,
-                ..NONE
-            },
-        )?;
-        corresponds(0x008, EntryFields { unused: 1, ..NONE })?;
-        corresponds(0x010, EntryFields { unused: 2, ..NONE })?;
-        corresponds(0x020, EntryFields { unused: 4, ..NONE })?;
-        corresponds(
-            0x040,
-            EntryFields {
-                inhibit: true,
-                ..NONE
-            },
-        )?;
-        corresponds(
-            0x080,
-            EntryFields {
-                referenced: true,
-                ..NONE
-            },
-        )?;
-        corresponds(
-            0x100,
-            EntryFields {
-                modified: true,
-                ..NONE
-            },
-        )?;
-        corresponds(0x200, EntryFields { user: 1, ..NONE })?;
-        corresponds(0x400, EntryFields { user: 2, ..NONE })?;
-        corresponds(0x800, EntryFields { user: 4, ..NONE })?;
+    fn single_bits_of_the_frame() -> Result<(), Fail> {
         for k in 0..20u32 {
-            corresponds(
-                0x1000 << k,
-                EntryFields {
-                    frame: 1 << k,
-                    ..NONE
-                },
-            )?;
+            let fields = EntryFields {
+                frame: 1 << k,
+                ..NONE
+            };
+            check_eq(EntryFields::decode(0x1000 << k), fields)?;
+            check_eq(fields.encode(), Some(0x1000 << k))?;
         }
         Ok(())
     }
 
     #[test]
     fn too_wide_fields() -> Result<(), Fail> {
-        check_eq(
-            EntryFields {
-                protection: 4,
-                ..NONE
-            }.encode(),
-            None,
-        )?;
-        check_eq(EntryFields { unused: 8, ..NONE }.encode(), None)?;
-        check_eq(EntryFields { user: 8, ..NONE }.encode(), None)?;
-        check_eq(
-            EntryFields {
-                frame: 0x100000,
-                ..NONE
-            }.encode(),
-            None,
-        )
+        for (protection, unused, user, frame) in [
+            (4, 0, 0, 0),
+            (255, 0, 0, 0),
+            (0, 8, 0, 0),
+            (0, 255, 0, 0),
+            (0, 0, 8, 0),
+            (0, 0, 255, 0),
+            (0, 0, 0, 0x100000),
+            (0, 0, 0, 0xffffffff),
+        ] {
+            check_eq(
+                EntryFields {
+                    protection,
+                    unused,
+                    user,
+                    frame,
+                    ..NONE
+                }.encode(),
+                None,
+            )?;
+        }
+        Ok(())
     }
 
     #[test]

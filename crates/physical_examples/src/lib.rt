@@ -1,11 +1,15 @@
 // Memories in use, with what comes out proved.
 ghost use mathlib.Core.Path.{_≡_};
-ghost use mathlib.Core.Bool.{true};
+ghost use mathlib.Core.Bool.{true, false};
+ghost use Rattle.std.specs.declared.option.Option.the-variants.{None as Nothing};
 ghost use Rattle.std.specs.declared.result.Result.the-variants.{Ok, Err};
 ghost use Rattle.physical.specs.Bytes.{laid-checked};
+ghost use Rattle.physical.specs.Composed.{paired, shifted};
+ghost use Rattle.physical.specs.Made.{everywhere};
 ghost use Rattle.physical.specs.Stores.{dword, write-answer};
 ghost use Rattle.physical.specs.Writes.{after-writes};
-ghost use Rattle.physical_examples.specs.Owner.{everywhere, poked};
+ghost use Rattle.physical_examples.specs.Machine.{exercised, machine-values, machine-writable, nowhere};
+ghost use Rattle.physical_examples.specs.Owner.{poked};
 ghost use Rattle.physical.specs.declared.MemoryError.the-variants.{Absent, ReadOnly};
 use physical::Memory;
 use physical::MemoryError;
@@ -38,26 +42,44 @@ pub struct Seen {
     pub beyond: Result<u32, MemoryError>,
 }
 
-// Three deep: a pair of a ROM and a shifted RAM. The ROM's frame lies at 0, the RAM's at 8,192, nothing between.
+// Three deep: a pair of a ROM and a shifted RAM.
+type Machine<'a> = Pair<Rom<'a>, Shift<Ram<'a>>>;
+
+// The ROM's bytes from 0 on, the RAM's from 8,192 on.
+fn machine<'a>(rom: &'a [u8], ram: &'a mut [u8]) -> Machine<'a>
+    ensures values { λ r. ⌜ machine-values r ≡ paired 2048 (laid-checked 0 (now (rom .entry))) (shifted 2048 Nothing (laid-checked 0 (now (ram .entry)))) ⌝ }
+    ensures writable { λ r. ⌜ machine-writable r ≡ paired 2048 nowhere (shifted 2048 false everywhere) ⌝ }
+{
+    Pair::new(
+        0x2000,
+        Rom::new(0, rom),
+        Shift::new(0x2000, Ram::new(0, ram)),
+    )
+}
+
+// Writes to the double-words at 0x0ffc and 0x2004, and then reads them and the one at 0x1000.
+fn exercise<M: Memory>(memory: &mut M) -> Seen
+    ensures { λ r. ⌜ r ≡ exercised (M·ReadableStore .values (now (memory .entry))) (M·Memory .writable (now (memory .entry))) ⌝ }
+{
+    let rom_write = (*memory).write(0x0ffc, 7);
+    let ram_write = (*memory).write(0x2004, 0x1122_3344);
+    Seen {
+        rom: (*memory).read(0x0ffc),
+        rom_write,
+        ram_write,
+        ram: (*memory).read(0x2006),
+        beyond: (*memory).read(0x1000),
+    }
+}
+
+// What is seen of the machine with a ROM frame of bytes 0x5a and a RAM frame of zeros.
 pub fn rom_below_ram() -> Seen
     ensures { λ r. ⌜ r ≡ record { rom = Ok 0x5a5a5a5a; «rom_write» = Err ReadOnly; «ram_write» = Ok tt; ram = Ok 0x11223344; beyond = Err Absent } ⌝ }
 {
     let rom = [0x5au8; 4096];
     let mut ram = [0u8; 4096];
-    let mut memory = Pair::new(
-        0x2000,
-        Rom::new(0, &rom),
-        Shift::new(0x2000, Ram::new(0, &mut ram)),
-    );
-    let rom_write = memory.write(0x0ffc, 7);
-    let ram_write = memory.write(0x2004, 0x1122_3344);
-    Seen {
-        rom: memory.read(0x0ffc),
-        rom_write,
-        ram_write,
-        ram: memory.read(0x2006),
-        beyond: memory.read(0x1000),
-    }
+    let mut memory = machine(&rom, &mut ram);
+    exercise(&mut memory)
 }
 
 // One write through a RAM that is gone afterwards: what the owner of the bytes then has.
