@@ -1,6 +1,5 @@
 -- Bits and fields of numbers joined by `bitOr` or masked by `bitAnd`.
 use mathlib.Core.Path.{_≡_, refl, sym, ap, ap₂, _∙_}
-use mathlib.Core.Bool.{not}
 use mathlib.Core.Logic.{inl, inr}
 use Prim.Native.Nat.{ℕ, zero, suc, _+_, _-_, _*_, _/_, _%_, _^_, _<_, min}
 use native.Mathlib.Nat.{div-one, div-eq-of-lt, mod-mod, min-zero}
@@ -53,12 +52,6 @@ other-bit j k apart =
 -- masked by one bit, a number is that bit at its place
 pub and-bit : (a k : ℕ) → bitAnd a (2 ^ k) ≡ bit k a * 2 ^ k
 and-bit a k = ap (bitAnd a) (omega (arith, pow-add 2 1 k)) ∙ and-high a 1 k
-
--- a test against one bit is the flag
-pub flag-test : (a k : ℕ) → not (eqb (bitAnd a (2 ^ k)) 0) ≡ flag k a
-flag-test a k =
-    ap (λ x. not (eqb x 0)) (and-bit a k)
-    ∙ by-bit (λ d. not (eqb (d * 2 ^ k) 0) ≡ eqb d 1) (grind (arith, tells)) (grind (arith, tells, pow-pos k)) k a
 
 -- bit k of a half is the next bit of the whole
 half-bit : (k a : ℕ) → bit k (a / 2) ≡ bit (1 + k) a

@@ -1,7 +1,7 @@
 -- Bits, fields and bytes of a double-word. Bit 0 is the lowest.
 use mathlib.Core.Bool.{Bool, true, false}
 use mathlib.Core.Path.{_≡_}
-use Prim.Native.Nat.{ℕ, _/_, _%_, _^_}
+use Prim.Native.Nat.{ℕ, _*_, _/_, _%_, _^_}
 use lib.Dec.{eqb}
 
 -- bit k of w
@@ -18,7 +18,7 @@ field low width w = w / 2 ^ low % 2 ^ width
 
 -- byte i of w, byte 0 the lowest
 abbrev pub byte : ℕ → ℕ → ℕ
-byte i w = w / 256 ^ i % 256
+byte i w = field (8 * i) 8 w
 
 -- a flag as a number
 abbrev pub as-bit : Bool → ℕ

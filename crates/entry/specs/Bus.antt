@@ -14,7 +14,7 @@ chosen-byte old new mask i = cond (flag i mask) (byte i new) (byte i old)
 
 abbrev pub merged : ℕ → ℕ → ℕ → ℕ
 merged old new mask =
-    chosen-byte old new mask 0 + chosen-byte old new mask 1 * 256 ^ 1 + chosen-byte old new mask 2 * 256 ^ 2 + chosen-byte old new mask 3 * 256 ^ 3
+    chosen-byte old new mask 0 + chosen-byte old new mask 1 * 2 ^ 8 + chosen-byte old new mask 2 * 2 ^ 16 + chosen-byte old new mask 3 * 2 ^ 24
 
 -- a mask has four bits; a wider one is refused
 abbrev pub merge-answer : ℕ → ℕ → ℕ → Option ℕ

@@ -1,8 +1,23 @@
 // What a masked write leaves of a double-word, and whether an address meets a breakpoint.
-ghost use mathlib.Core.Bool.{cond};
 ghost use mathlib.Core.Path.{_≡_};
+ghost use Prim.Native.Nat.{_<_};
 ghost use Rattle.std.specs.Orderings.{Decides};
-ghost use Rattle.entry.specs.Bus.{Agrees, breakpoint-match, merge-answer};
+ghost use Rattle.entry.specs.Bus.{Agrees, breakpoint-match, chosen-byte, merge-answer};
+use crate::bits::byte_at;
+use crate::bits::flag_at;
+
+// Byte i of the new double-word if the mask chooses it, else of the old one.
+fn choose(old: u32, new: u32, mask: u8, i: u32) -> u32
+    requires { ⌜ i < 4 ⌝ }
+    ensures value { λ r. ⌜ r ≡ chosen-byte old new mask i ⌝ }
+    ensures bound { λ r. ⌜ r < 256 ⌝ }
+{
+    if flag_at(u32::from(mask), i) {
+        byte_at(new, i)
+    } else {
+        byte_at(old, i)
+    }
+}
 
 // The old double-word with those bytes of the new one that the mask chooses: bit 0 the lowest byte, up to bit 3.
 // A mask above 15 is refused.
@@ -12,20 +27,19 @@ pub fn merge(old: u32, new: u32, mask: u8) -> Option<u32>
     if mask > 15 {
         return None;
     }
-    let o = old.to_le_bytes();
-    let n = new.to_le_bytes();
-    Some(u32::from_le_bytes([
-        choose(mask & 1 != 0, n[0], o[0]),
-        choose(mask & 2 != 0, n[1], o[1]),
-        choose(mask & 4 != 0, n[2], o[2]),
-        choose(mask & 8 != 0, n[3], o[3]),
-    ]))
+    Some(
+        choose(old, new, mask, 0)
+            + choose(old, new, mask, 1) * 0x100
+            + choose(old, new, mask, 2) * 0x1_0000
+            + choose(old, new, mask, 3) * 0x100_0000,
+    )
 }
 
-fn choose(which: bool, new: u8, old: u8) -> u8
-    ensures { λ r. ⌜ r ≡ cond which new old ⌝ }
+// Whether two addresses are equal under the mask.
+fn equal_masked(address: u32, other: u32, mask: u32) -> bool
+    ensures { λ r. ⌜ r ≡ breakpoint-match address other mask ⌝ }
 {
-    if which { new } else { old }
+    address & mask == other & mask
 }
 
 // Whether the address equals the breakpoint in every bit that the mask sets.
@@ -33,5 +47,5 @@ pub fn breakpoint_matches(address: u32, breakpoint: u32, mask: u32) -> bool
     ensures value { λ r. ⌜ r ≡ breakpoint-match address breakpoint mask ⌝ }
     ensures bits { λ r. ⌜ Decides r (Agrees address breakpoint mask) ⌝ }
 {
-    address & mask == breakpoint & mask
+    equal_masked(address, breakpoint, mask)
 }

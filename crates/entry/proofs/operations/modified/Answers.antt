@@ -1,7 +1,0 @@
-use mathlib.Core.Path.{sym, ap, _∙_}
-use Rattle.entry.specs.NS32382.{second-only}
-use Rattle.entry.proofs.Bitwise.{flag-test}
-use Rattle.entry.proofs.operations.modified.Needs as need
-
-pub returns-in-Second : need.returns-in-Second
-returns-in-Second c = let e = c .args .entry in flag-test e 8 ∙ ap (λ t. second-only 8 t e) (sym (c .in-Second .is))
