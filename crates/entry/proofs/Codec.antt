@@ -63,6 +63,13 @@ same-fields f w fits is = by-bounds (within f .0 fits) (bit-small (f .valid)) (b
         alike (bit-flag (f .valid) (bit 0 w) (omega arith)) (omega arith) (omega arith) (bit-flag (f .inhibit) (bit 6 w) (omega arith))
         (bit-flag (f .referenced) (bit 7 w) (omega arith)) (bit-flag (f .modified) (bit 8 w) (omega arith)) (omega arith) (omega arith)
 
+-- fields that fit make 32 bits
+entry-small : (f : EntryFields) → fit f ≡ true → entry-of f < 2 ^ 32
+entry-small f fits = by-bounds (within f .0 fits) (bit-small (f .valid)) (bit-small (f .inhibit)) (bit-small (f .referenced)) (bit-small (f .modified))
+  where
+    by-bounds : Within f → as-bit (f .valid) < 2 → as-bit (f .inhibit) < 2 → as-bit (f .referenced) < 2 → as-bit (f .modified) < 2 → entry-of f < 2 ^ 32
+    by-bounds h v i r m = omega arith
+
 -- an answer in `Some` was not refused
 answered : (b : Bool) (x w : ℕ) → cond b (Some x) None ≡ Some w → (b ≡ true) × (w ≡ x)
 answered true x w is = (refl, cc)
@@ -71,10 +78,10 @@ answered false x w is = let z : _≡_ {A = ℕ} 0 1 = cc in absurd (omega arith)
 pub round-trips : RoundTrips
 round-trips = record {
   same-bits = λ w h. cond-true (fit (fields-of w)) _ _ (within (fields-of w) .1 (omega arith, (omega arith, (omega arith, omega arith)))) ∙ ap Some (same-bits w h);
-  same-fields = λ f w is. let a = answered (fit f) (entry-of f) w is in same-fields f w (a .0) (a .1);
+  same-fields = λ f fits. (cond-true (fit f) _ _ fits, entry-small f fits, same-fields f (entry-of f) fits refl);
 }
 
 -- the same of what is answered
 pub encoded-back : (f : EntryFields) (r : Option ℕ) → r ≡ encoded f → found r (λ w. fields-of w ≡ f)
 encoded-back f None is = tt
-encoded-back f (Some w) is = round-trips .same-fields f w (sym is)
+encoded-back f (Some w) is = let a = answered (fit f) (entry-of f) w (sym is) in same-fields f w (a .0) (a .1)

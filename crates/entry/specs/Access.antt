@@ -21,9 +21,9 @@ abbrev pub access-level : Mode → Bool → AccessKind → ℕ
 access-level mode override kind = cond (is-user mode && not override) 2 0 + cond (is-plain-read kind) 0 1
 
 -- an access passes an entry whose protection level is not below its access level
-abbrev pub passes : ℕ → ℕ → Bool
-passes level protection = leb level protection
+abbrev pub permits : ℕ → ℕ → Bool
+permits protection level = leb level protection
 
 -- of two entries on the way, the smaller protection level counts
-abbrev pub effective : ℕ → ℕ → ℕ
-effective first second = min first second
+abbrev pub effective-protection : ℕ → ℕ → ℕ
+effective-protection first second = min first second

@@ -1,5 +1,5 @@
 -- A page table entry as 32 bits, and as its eight fields.
-use mathlib.Core.Bool.{Bool, cond, _&&_}
+use mathlib.Core.Bool.{Bool, true, cond, _&&_}
 use mathlib.Core.Path.{_≡_}
 use Prim.Native.Nat.{ℕ, _+_, _*_, _^_, _<_}
 use lib.Dec.{ltb}
@@ -38,4 +38,4 @@ encoded f = cond (fit f) (Some (entry-of f)) None
 -- taking apart and putting together lose nothing, either way round
 pub record RoundTrips : Type 0 where
   pub same-bits : (w : ℕ) → w < 2 ^ 32 → encoded (fields-of w) ≡ Some w
-  pub same-fields : (f : EntryFields) (w : ℕ) → encoded f ≡ Some w → fields-of w ≡ f
+  pub same-fields : (f : EntryFields) → fit f ≡ true → (encoded f ≡ Some (entry-of f)) × (entry-of f < 2 ^ 32) × (fields-of (entry-of f) ≡ f)

@@ -4,7 +4,7 @@ use mathlib.Core.Path.{_≡_}
 use Rattle.std.specs.declared.option.Option.the-variants.{Some}
 use Rattle.entry.specs.Fields.{fields-of}
 use Rattle.entry.specs.NS32382.{ns32382}
-use Rattle.entry.specs.Access.{access-level, effective, passes}
+use Rattle.entry.specs.Access.{access-level, effective-protection, permits}
 use Rattle.entry.specs.Bus.{breakpoint-match, merge-answer}
 use Rattle.entry.specs.declared.TableLevel.the-variants.{Second}
 use Rattle.entry.specs.declared.access.Mode.the-variants.{Supervisor, User}
@@ -25,12 +25,12 @@ pub record Figures : Type 0 where
   pub referenced : ns32382 .mark-referenced Second 0x00005005 ≡ 0x00005085
   pub modified : ns32382 .mark-modified Second 0x00005085 ≡ 0x00005185
   -- PL 3 over PL 2 gives 2, which level 2 passes and level 3 does not
-  pub smaller : effective 3 2 ≡ 2
-  pub level-2-passes : passes 2 (effective 3 2) ≡ true
-  pub level-3-stops : passes 3 (effective 3 2) ≡ false
+  pub smaller : effective-protection 3 2 ≡ 2
+  pub level-2-passes : permits (effective-protection 3 2) 2 ≡ true
+  pub level-3-stops : permits (effective-protection 3 2) 3 ≡ false
   -- PL 0 passes level 0 and not level 1
-  pub level-0-passes : passes 0 0 ≡ true
-  pub level-1-stops : passes 1 0 ≡ false
+  pub level-0-passes : permits 0 0 ≡ true
+  pub level-1-stops : permits 0 1 ≡ false
   -- 0x11223344 with the mask 5 over 0xaabbccdd leaves 0xaa22cc44
   pub merge : merge-answer 0xaabbccdd 0x11223344 5 ≡ Some 0xaa22cc44
   -- a breakpoint at 0x00403000 with the mask 0xfffff000 matches 0x00403004 and not 0x00404004

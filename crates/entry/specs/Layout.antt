@@ -58,10 +58,11 @@ pub record Lawful (l : Layout) : Type 0 where
   pub first-inhibit : (e : ℕ) → l .inhibit First e ≡ false
   -- protection levels are 0 to 3
   pub protection-small : (e : ℕ) → l .protection e ≤ 3
-  -- an address is its page number and its offset; each page number below the limit has an address
+  -- an address is its page number and its offset; each page number below the limit has an address of 32 bits
   pub address-parts : (a : ℕ) → a ≡ l .page a * l .page-size + l .offset a
   pub offset-small : (a : ℕ) → l .offset a < l .page-size
   pub page-start : (p : ℕ) → l .page (p * l .page-size) ≡ p
+  pub pages-fit : l .page-count * l .page-size ≤ 2 ^ 32
   pub page-small : (a : ℕ) → a < 2 ^ 32 → l .page a < l .page-count
   -- a base register holds zero where zero is loaded, and what it holds loads as itself
   pub base-zero : l .base 0 ≡ 0

@@ -1,6 +1,6 @@
 // Who accesses, what for, and what that asks of an entry.
 ghost use mathlib.Core.Path.{_≡_};
-ghost use Rattle.entry.specs.Access.{access-level, effective, passes};
+ghost use Rattle.entry.specs.Access.{access-level, effective-protection, permits as permitted};
 
 // The processor's mode.
 #[derive(Clone, Copy, PartialEq, Eq, Debug)]
@@ -34,14 +34,14 @@ pub fn access_level(mode: Mode, overridden: bool, kind: AccessKind) -> u8
 
 // Whether an access of that level passes an entry of that protection level.
 pub fn permits(protection: u8, level: u8) -> bool
-    ensures { λ r. ⌜ r ≡ passes level protection ⌝ }
+    ensures { λ r. ⌜ r ≡ permitted protection level ⌝ }
 {
     level <= protection
 }
 
 // The protection level that counts where two entries lie on the way.
 pub fn effective_protection(first: u8, second: u8) -> u8
-    ensures { λ r. ⌜ r ≡ effective first second ⌝ }
+    ensures { λ r. ⌜ r ≡ effective-protection first second ⌝ }
 {
     first.min(second)
 }

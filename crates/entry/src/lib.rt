@@ -6,10 +6,15 @@ ghost use Rattle.std.specs.declared.option.Option.the-variants.{Some as Present
 ghost use Rattle.entry.specs.Fields.{RoundTrips, encoded, fields-of};
 ghost use Rattle.entry.specs.Figures.{Figures};
 ghost use Rattle.entry.specs.Layout.{Lawful};
-ghost use Rattle.entry.specs.NS32382.{ns32382};
+ghost use Rattle.entry.specs.NS32382.{AddressBits, ns32382};
 use bits::bit_value;
 use bits::field_at;
-use bits::flag_at;
+use operations::frame;
+use operations::inhibit;
+use operations::modified;
+use operations::protection;
+use operations::referenced;
+use operations::valid;
 
 pub mod access;
 mod bits;
@@ -67,14 +72,14 @@ fn take_apart(entry: u32) -> EntryFields
     ensures { λ r. ⌜ r ≡ fields-of entry ⌝ }
 {
     EntryFields {
-        valid: flag_at(entry, 0),
-        protection: field_at(entry, 1, 2) as u8,
+        valid: valid(entry),
+        protection: protection(entry),
         unused: field_at(entry, 3, 3) as u8,
-        inhibit: flag_at(entry, 6),
-        referenced: flag_at(entry, 7),
-        modified: flag_at(entry, 8),
+        inhibit: inhibit(TableLevel::Second, entry),
+        referenced: referenced(entry),
+        modified: modified(TableLevel::Second, entry),
         user: field_at(entry, 9, 3) as u8,
-        frame: field_at(entry, 12, 20),
+        frame: frame(entry),
     }
 }
 
@@ -97,11 +102,10 @@ fn put_together(fields: &EntryFields) -> Option<u32>
 }
 
 // What stands of the definitions that the contracts of this crate cite: both ways round of taking apart and putting
-// together, the laws of the layout, and worked figures. The answer is how many figures there are.
-pub fn layout_stands() -> u8
+// together, the laws of the layout, the bits of an address, and worked figures. It is there for its contract.
+pub fn layout_stands()
     ensures trips { λ _. ⌜ RoundTrips ⌝ }
     ensures lawful { λ _. ⌜ Lawful ns32382 ⌝ }
+    ensures address { λ _. ⌜ AddressBits ⌝ }
     ensures figures { λ _. ⌜ Figures ⌝ }
-{
-    8
-}
+{}

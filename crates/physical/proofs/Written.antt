@@ -16,7 +16,7 @@ use Rattle.std.proofs.shelf.Lists.{at-drop-more}
 use Rattle.std.proofs.shelf.Tests.{cases-bool, cases-eq, eq-eqb, ne-eqb}
 use Rattle.std.proofs.shelf.Ways.{tells}
 use Rattle.physical.specs.Stores.{Values, Writable, dword, read-answer, replaced, write-answer, written}
-use Rattle.physical.specs.Writes.{LastAccepted, LastWriteStands, NoneAccepted, OneWrite, Stands, as-at-first, as-written, accepted, accepted-count, after-write, after-writes}
+use Rattle.physical.specs.Writes.{LastAccepted, LastWriteStands, NoneAccepted, OneWrite, Reasons, Stands, as-at-first, as-written, accepted, accepted-count, after-write, after-writes, outcome-number}
 use Rattle.physical.specs.declared.MemoryError.{MemoryError}
 use Rattle.physical.specs.declared.writes.Write.{Write}
 
@@ -45,6 +45,18 @@ module _ (m : Values) (w : Writable) (k v : ℕ) where
 
   written-present : (q : ℕ) → isSome (written m w k v q) ≡ isSome (m q)
   written-present q = ⊎-elim (λ (e : q ≡ k). rw (e, written-there) (present-replaced (m k) (w k) v)) (λ (h : q ≡ k → ⊥). ap isSome (written-elsewhere q h)) (cases-eq q k)
+
+read-reason : (o : Option ℕ) → outcome-number (read-answer o) ≡ cond (isSome o) 0 1
+read-reason None = refl
+read-reason (Some u) = refl
+
+write-reason : (o : Option ℕ) (w : Bool) → outcome-number (write-answer o w) ≡ cond (isSome o) (cond w 0 2) 1
+write-reason None w = refl
+write-reason (Some u) true = refl
+write-reason (Some u) false = refl
+
+pub reasons : Reasons
+reasons = record { of-read = read-reason; of-write = write-reason }
 
 pub one-write : OneWrite
 one-write = record {

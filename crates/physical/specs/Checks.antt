@@ -22,24 +22,25 @@ abbrev pub check-number : Result (Unit {0}) AssemblyError → ℕ
 check-number (Ok u) = 0
 check-number (Err e) = assembly-number e
 
-abbrev pub whole : ℕ → Bool
-whole n = eqb (n % granule) 0
+-- a multiple of the granule
+abbrev pub is-multiple : ℕ → Bool
+is-multiple n = eqb (n % granule) 0
 
--- a length: not zero, whole granules, at most 16,777,216
-abbrev pub fair-length : ℕ → Bool
-fair-length n = not (eqb n 0) && (whole n && leb n 16777216)
+-- a length: not zero, a multiple of the granule, at most 16,777,216
+abbrev pub length-ok : ℕ → Bool
+length-ok n = not (eqb n 0) && (is-multiple n && leb n 16777216)
 
--- a start for a length: whole granules, and the last byte below 2^32
-abbrev pub fair-start : ℕ → ℕ → Bool
-fair-start s n = whole s && leb (s + n) 4294967296
+-- a start for a length: a multiple of the granule, and the last byte below 2^32
+abbrev pub start-ok : ℕ → ℕ → Bool
+start-ok s n = is-multiple s && leb (s + n) 4294967296
 
 -- 1 for the length, then 2 for the start
 abbrev pub range-rule : ℕ → ℕ → ℕ
-range-rule s n = cond (fair-length n) (cond (fair-start s n) 0 2) 1
+range-rule s n = cond (length-ok n) (cond (start-ok s n) 0 2) 1
 
 -- 3 for a split or a shift
 abbrev pub boundary-rule : ℕ → ℕ
-boundary-rule a = cond (whole a) 0 3
+boundary-rule a = cond (is-multiple a) 0 3
 
 -- the double-word at which a split or a shift lies, once the bits below the granule are cleared
 abbrev pub boundary-dword : ℕ → ℕ

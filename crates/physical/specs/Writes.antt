@@ -7,8 +7,9 @@ use Rattle.std.specs.Options.{isSome}
 use Rattle.std.specs.Results.{isOk}
 use Rattle.std.specs.declared.option.Option.{Option}
 use Rattle.std.specs.declared.option.Option.the-variants.{Some, None}
+use Rattle.std.specs.declared.result.Result.{Result}
 use Rattle.std.specs.declared.result.Result.the-variants.{Ok, Err}
-use Rattle.physical.specs.Stores.{Values, Writable, dword, read-answer, write-answer, written}
+use Rattle.physical.specs.Stores.{Values, Writable, dword, read-answer, reason-number, write-answer, written}
 use Rattle.physical.specs.declared.MemoryError.{MemoryError}
 use Rattle.physical.specs.declared.writes.Write.{Write}
 
@@ -50,10 +51,20 @@ pub data Stands (m : Values) (w : Writable) (ws : List Write) (q : ℕ) : Option
   as-written : (l : LastAccepted m w ws q) → Stands m w ws q (Some (l .last .value))
   as-at-first : NoneAccepted m w [] ws q → Stands m w ws q (m q)
 
--- n are the values after the writes: each read answers by what stands, and presence is as at first
+-- n are the values after the writes: by what stands in each double-word, with presence as at first
 pub record LastWriteStands (m : Values) (w : Writable) (ws : List Write) (n : Values) : Type 0 where
   pub stands : (q : ℕ) → Stands m w ws q (n q)
   pub presence : (q : ℕ) → isSome (n q) ≡ isSome (m q)
+
+-- what a read and a write answer, in numbers: 0 where done, else the reason
+abbrev pub outcome-number : {X : Type 0} → Result X MemoryError → ℕ
+outcome-number (Ok x) = 0
+outcome-number (Err e) = reason-number e
+
+-- reason 1 exactly where absent; reason 2 exactly for a write where present and read-only
+pub record Reasons : Type 0 where
+  pub of-read : (o : Option ℕ) → outcome-number (read-answer o) ≡ cond (isSome o) 0 1
+  pub of-write : (o : Option ℕ) (w : Bool) → outcome-number (write-answer o w) ≡ cond (isSome o) (cond w 0 2) 1
 
 -- one write: refused, it alters nothing; accepted, it replaces its double-word and no other
 pub record OneWrite : Type 0 where

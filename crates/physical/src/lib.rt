@@ -48,7 +48,7 @@ pub trait ReadableStore {
 pub trait Memory: ReadableStore {
     ghost writable: { Self → Writable };
 
-    // The slices it was lent, for makes over bytes of the caller. A make that has none leaves this out.
+    // The slices it was lent, for memories over bytes of the caller. An implementation that has none leaves this out.
     ghost loans: { Self → Loans } = { λ _. none };
 
     fn write(&mut self, address: u32, value: u32) -> WriteOutcome

@@ -1,11 +1,8 @@
 // RAM: memory over bytes that the caller lends, writable throughout.
 ghost use mathlib.Core.Path.{_≡_};
 ghost use denote.Ref.{name, now};
-ghost use lib.Dec.{eqb};
-ghost use lib.ListN.{length};
 ghost use Rattle.physical.specs.Bytes.{laid-checked};
-ghost use Rattle.physical.specs.Checks.{range-rule};
-ghost use Rattle.physical.specs.Loans.{slice};
+ghost use Rattle.physical.specs.Loans.{loan-checked};
 ghost use Rattle.physical.specs.Made.{ram-loans, ram-stored, ram-values, ram-writable};
 ghost use Rattle.physical.specs.Stores.{dword, write-answer, written};
 use crate::Memory;
@@ -25,7 +22,8 @@ impl<'a> Ram<'a> {
         ensures values { λ r. ⌜ ram-values r ≡ laid-checked start (now (bytes .entry)) ⌝ }
         ensures bytes { λ r. ⌜ now (r .bytes) ≡ now (bytes .entry) ⌝ }
         ensures named { λ r. ⌜ name (r .bytes) ≡ name (bytes .entry) ⌝ }
-        ensures lends { λ r. ⌜ ram-loans r ≡ slice (name (bytes .entry)) (length (now (bytes .entry))) start (eqb (range-rule start (length (now (bytes .entry)))) 0) ⌝ }
+        ensures placed { λ r. ⌜ r .range .start ≡ start ⌝ }
+        ensures lends { λ r. ⌜ ram-loans r ≡ loan-checked start (name (bytes .entry)) (now (bytes .entry)) ⌝ }
     {
         let range = Range::new(start, bytes.len());
         Ram { bytes, range }

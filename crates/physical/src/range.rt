@@ -1,13 +1,13 @@
 // Bytes that lie as double-words from an address on.
 ghost use mathlib.Core.Path.{_≡_};
 ghost use mathlib.Core.Bool.{true, false};
-ghost use Prim.Native.Nat.{_+_, _-_, _*_, _≤_};
+ghost use Prim.Native.Nat.{ℕ, _+_, _-_, _*_, _≤_};
 ghost use lib.Dec.{eqb};
 ghost use lib.ListN.{length};
 ghost use Rattle.std.specs.Options.{Cases as BySome};
 ghost use Rattle.physical.specs.Bytes.{dword-at, stored};
 ghost use Rattle.physical.specs.Checks.{range-rule};
-ghost use Rattle.physical.specs.Made.{covered, everywhere, range-stored, ranged};
+ghost use Rattle.physical.specs.Made.{covered, everywhere, range-loan, range-stored, ranged};
 ghost use Rattle.physical.specs.Stores.{dword, read-answer, write-answer, written};
 use crate::MemoryError;
 use crate::WriteOutcome;
@@ -64,6 +64,7 @@ impl Range {
     pub(crate) fn write(&self, bytes: &mut [u8], address: u32, value: u32) -> WriteOutcome
         ensures answers { λ r. ⌜ r ≡ write-answer (ranged (now (self .entry)) (now (bytes .entry)) (dword address)) true ⌝ }
         ensures leaves { λ _. ⌜ ranged (now (self .entry)) (now (bytes .exit)) ≡ written (ranged (now (self .entry)) (now (bytes .entry))) everywhere (dword address) value ⌝ }
+        ensures lends { λ _. ⌜ ((n : ℕ) → range-loan (now (self .entry)) n (now (bytes .exit)) ≡ range-loan (now (self .entry)) n (now (bytes .entry))) ⌝ }
         ensures stores { λ _. ⌜ now (bytes .exit) ≡ range-stored (now (self .entry)) (now (bytes .entry)) address value ⌝ }
     {
         let Some(i) = self.find(bytes.len(), address) else {

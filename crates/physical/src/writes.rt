@@ -1,7 +1,7 @@
 // Lists of writes to any memory.
 ghost use mathlib.Core.Path.{_≡_};
 ghost use mathlib.Core.Bool.{cond};
-ghost use Rattle.physical.specs.Writes.{LastWriteStands, OneWrite, accepted, accepted-count, after-write, after-writes};
+ghost use Rattle.physical.specs.Writes.{LastWriteStands, OneWrite, Reasons, accepted, accepted-count, after-write, after-writes};
 use crate::Memory;
 
 // A value for the double-word at an address.
@@ -32,6 +32,7 @@ pub fn write_all<M: Memory>(memory: &mut M, writes: &[Write]) -> usize
     ensures lends { λ _. ⌜ M·Memory .loans (now (memory .exit)) ≡ M·Memory .loans (now (memory .entry)) ⌝ }
     ensures stands { λ _. ⌜ LastWriteStands (M·ReadableStore .values (now (memory .entry))) (M·Memory .writable (now (memory .entry))) (now (writes .entry)) (M·ReadableStore .values (now (memory .exit))) ⌝ }
     ensures single { λ _. ⌜ OneWrite ⌝ }
+    ensures reasons { λ _. ⌜ Reasons ⌝ }
 {
     let mut count = 0;
     for write in writes {

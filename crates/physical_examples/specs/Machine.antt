@@ -10,10 +10,6 @@ use Rattle.physical.specs.declared.rom.Rom.{Rom}
 use Rattle.physical.specs.declared.shift.Shift.{Shift}
 use Rattle.physical_examples.specs.declared.Seen.{Seen}
 
--- no double-word can be written
-abbrev pub nowhere : Writable
-nowhere q = false
-
 abbrev pub machine-values : Pair Rom (Shift Ram) → Values
 machine-values p = paired (p .split) (rom-values (p .first)) (shifted (p .second .distance) None (ram-values (p .second .inner)))
 

@@ -1,14 +1,17 @@
 // Memories in use, with what comes out proved.
 ghost use mathlib.Core.Path.{_≡_};
 ghost use mathlib.Core.Bool.{true, false};
+ghost use lib.Dec.{eqb};
+ghost use lib.ListN.{length};
 ghost use Rattle.std.specs.declared.option.Option.the-variants.{None as Nothing};
 ghost use Rattle.std.specs.declared.result.Result.the-variants.{Ok, Err};
 ghost use Rattle.physical.specs.Bytes.{laid-checked};
+ghost use Rattle.physical.specs.Checks.{range-rule};
 ghost use Rattle.physical.specs.Composed.{paired, shifted};
-ghost use Rattle.physical.specs.Made.{everywhere};
+ghost use Rattle.physical.specs.Made.{everywhere, nowhere};
 ghost use Rattle.physical.specs.Stores.{dword, write-answer};
-ghost use Rattle.physical.specs.Writes.{after-writes};
-ghost use Rattle.physical_examples.specs.Machine.{exercised, machine-values, machine-writable, nowhere};
+ghost use Rattle.physical.specs.Writes.{accepted-count, after-writes};
+ghost use Rattle.physical_examples.specs.Machine.{exercised, machine-values, machine-writable};
 ghost use Rattle.physical_examples.specs.Owner.{poked};
 ghost use Rattle.physical.specs.declared.MemoryError.the-variants.{Absent, ReadOnly};
 use physical::Memory;
@@ -91,9 +94,12 @@ pub fn poke(bytes: &mut [u8], start: u32, address: u32, value: u32) -> WriteOutc
     ram.write(address, value)
 }
 
-// A list of writes through a RAM that is gone afterwards, made by code that knows only that it is a memory.
+// A list of writes through a RAM that is gone afterwards, made by code that knows only that it is a memory: what the
+// bytes then hold, and that they stay where the check refuses them.
 pub fn poke_all(bytes: &mut [u8], start: u32, writes: &[Write]) -> usize
-    ensures { λ _. ⌜ laid-checked start (now (bytes .exit)) ≡ after-writes (laid-checked start (now (bytes .entry))) everywhere (now (writes .entry)) ⌝ }
+    ensures count { λ r. ⌜ r ≡ accepted-count (laid-checked start (now (bytes .entry))) everywhere (now (writes .entry)) ⌝ }
+    ensures values { λ _. ⌜ laid-checked start (now (bytes .exit)) ≡ after-writes (laid-checked start (now (bytes .entry))) everywhere (now (writes .entry)) ⌝ }
+    ensures left_alone { λ _. ⌜ (eqb (range-rule start (length (now (bytes .entry)))) 0 ≡ false → now (bytes .exit) ≡ now (bytes .entry)) ⌝ }
 {
     let mut ram = Ram::new(start, bytes);
     write_all(&mut ram, writes)

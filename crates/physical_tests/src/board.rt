@@ -1,4 +1,4 @@
-// A memory of another make: the double-word at 4,096 is read-only, the one at 4,104 a register, all others absent.
+// A memory implemented elsewhere: the double-word at 4,096 is read-only, the one at 4,104 a register, all others absent.
 // It shows what the trait asks and no more.
 ghost use Rattle.physical_tests.specs.Board.{board-values, board-writable};
 use physical::Memory;

@@ -64,6 +64,9 @@ mod tests {
     #[test]
     fn boundaries_and_numbers() -> Result<(), Fail> {
         check_eq(check_boundary(0), Ok(()))?;
+        check_eq(check_boundary(1), Err(AssemblyError::Boundary))?;
+        check_eq(check_boundary(2), Err(AssemblyError::Boundary))?;
+        check_eq(check_boundary(4), Ok(()))?;
         check_eq(check_boundary(4096), Ok(()))?;
         check_eq(check_boundary(0xffff_ffff), Err(AssemblyError::Boundary))?;
         check_eq(AssemblyError::Length.number(), 1)?;
@@ -149,8 +152,10 @@ mod tests {
     fn splits() -> Result<(), Fail> {
         let low = [1u8; 4096];
         let high = [2u8; 4096];
-        let none = Pair::new(3, Rom::new(0, &low), Rom::new(0, &high));
+        let none = Pair::new(0, Rom::new(0, &low), Rom::new(0, &high));
         check_eq(none.read(0), Ok(0x0202_0202))?;
+        let cleared = Pair::new(3, Rom::new(0, &low), Rom::new(0, &high));
+        check_eq(cleared.read(0), Ok(0x0202_0202))?;
         let half = Pair::new(2051, Rom::new(0, &low), Rom::new(0, &high));
         check_eq(half.read(2044), Ok(0x0101_0101))?;
         check_eq(half.read(2048), Ok(0x0202_0202))?;
@@ -171,6 +176,7 @@ mod tests {
         {
             let mut shifted = Shift::new(0xffff_f003, Ram::new(0, &mut bytes));
             check_eq(shifted.read(0xffff_efff), Err(ABSENT))?;
+            check_eq(shifted.write(0xffff_effc, 6), Err(ABSENT))?;
             check_eq(shifted.read(0xffff_f000), Ok(0x0505_0505))?;
             check_eq(shifted.write(0xffff_fffc, 6), Ok(()))?;
             check_eq(shifted.read(0), Err(ABSENT))?;
@@ -206,9 +212,9 @@ mod tests {
         check_eq(looked_at.read(8192), Ok(8))
     }
 
-    // A memory of another make under generic code, alone and in a composition.
+    // A memory that is implemented elsewhere under generic code, alone and in a composition.
     #[test]
-    fn another_make() -> Result<(), Fail> {
+    fn another_implementation() -> Result<(), Fail> {
         let writes = [
             Write {
                 address: 4096,

@@ -7,6 +7,7 @@ ghost use Rattle.std.specs.Vec.{made};
 ghost use Rattle.std.specs.declared.option.Option.the-variants.{Some as Present};
 ghost use Rattle.entry.specs.Fields.{encoded};
 use entry::EntryFields;
+use entry::geometry::PAGE_SIZE;
 use entry::geometry::first_entry_address;
 use entry::geometry::first_index;
 use entry::geometry::offset;
@@ -48,6 +49,8 @@ const RAM_LENGTH: u32 = 0x8000;
 
 const ROM_PLACE: u32 = 0x1_0000;
 
+const TOO_LONG: usize = 16_781_312;
+
 // The first table, the second table and the page of data, each in a frame of its own.
 const FIRST_TABLE: u32 = 0x1000;
 
@@ -55,10 +58,10 @@ const SECOND_TABLE: u32 = 0x2000;
 
 const DATA_FRAME: u32 = 0x5000;
 
-// What is looked up, and the low water that stands there, in centimetres.
+// The virtual address that is looked up, and the low water of the first harbour in the page, in centimetres.
 const VIRTUAL: u32 = 0x0040_3004;
 
-const LOW_WATER: u32 = 25;
+const FIRST_LOW: u32 = 24;
 
 fn show_check(
     rt: &LibcRuntime,
@@ -99,8 +102,11 @@ fn assemble<'a>(
         "   a pair of them, split at {RAM_LENGTH:#010x}: below it the RAM answers, from it on the moved ROM"
     )?;
     show_check(rt, "the split", check_boundary(RAM_LENGTH))?;
-    println!(rt, "   for comparison, a RAM of 6 bytes")?;
-    show_check(rt, "its start and length", check_range(0, 6))?;
+    println!(
+        rt,
+        "   for comparison, a RAM of {TOO_LONG} bytes, which is too long"
+    )?;
+    show_check(rt, "its start and length", check_range(0, TOO_LONG))?;
     Ok(Pair::new(
         RAM_LENGTH,
         Ram::new(0, ram),
@@ -108,9 +114,9 @@ fn assemble<'a>(
     ))
 }
 
-// An entry that is valid and leads to the frame that has the address.
-fn entry_for(frame: u32, protection: u8) -> Result<u32, AnyError>
-    ensures { λ r. ⌜ made r (λ e. encoded (record { valid = true; protection = protection; unused = 0; inhibit = false; referenced = false; modified = false; user = 0; frame = frame / 4096 }) ≡ Present e) ⌝ }
+// An entry that is valid and leads to the frame at the address.
+fn entry_for(address: u32, protection: u8) -> Result<u32, AnyError>
+    ensures { λ r. ⌜ made r (λ e. encoded (record { valid = true; protection = protection; unused = 0; inhibit = false; referenced = false; modified = false; user = 0; frame = address / 4096 }) ≡ Present e) ⌝ }
 {
     let fields = EntryFields {
         valid: true,
@@ -120,7 +126,7 @@ fn entry_for(frame: u32, protection: u8) -> Result<u32, AnyError>
         referenced: false,
         modified: false,
         user: 0,
-        frame: frame / 4096,
+        frame: address / PAGE_SIZE,
     };
     match fields.encode() {
         Some(entry) => Ok(entry),
@@ -148,17 +154,30 @@ fn fill(rt: &LibcRuntime, memory: &mut Machine<'_>) -> Result<(), AnyError> {
     };
     show_planned(rt, "first entry, to the second table", &first)?;
     let second = Write {
-        address: second_entry_address(SECOND_TABLE / 4096, page),
+        address: second_entry_address(SECOND_TABLE / PAGE_SIZE, page),
         value: entry_for(DATA_FRAME, 2)?,
     };
     show_planned(rt, "second entry, to the frame", &second)?;
-    let data = Write {
-        address: DATA_FRAME + offset(VIRTUAL),
-        value: LOW_WATER,
-    };
-    show_planned(rt, "low water, in centimetres", &data)?;
-    let accepted = write_all(memory, &[first, second, data]);
-    println!(rt, "   accepted: {accepted} of 3 writes")?;
+    let accepted = write_all(memory, &[first, second]);
+    println!(rt, "   accepted: {accepted} of 2 writes")?;
+    fill_page(memory)?;
+    println!(
+        rt,
+        "   page of data: 1024 double-words, the low waters of as many harbours in centimetres,"
+    )?;
+    println!(
+        rt,
+        "   {FIRST_LOW} for the first and 1 more for each next one"
+    )?;
+    Ok(())
+}
+
+fn fill_page(memory: &mut Machine<'_>) -> Result<(), AnyError> {
+    for i in 0..1024u32 {
+        if memory.write(DATA_FRAME + 4 * i, FIRST_LOW + i).is_err() {
+            return Err("the page cannot be written".into());
+        }
+    }
     Ok(())
 }
 
@@ -174,7 +193,11 @@ fn show_fields(rt: &LibcRuntime, entry: u32) -> Result<(), AnyError> {
     let pfn = f.frame;
     println!(
         rt,
-        "      its fields: V {v}, PL {pl}, NU {nu}, CI {ci}, R {r}, M {m}, USR {usr}, PFN {pfn}"
+        "      valid (V) {v}, protection level (PL) {pl}, not used (NU) {nu}, cache inhibit (CI) {ci},"
+    )?;
+    println!(
+        rt,
+        "      referenced (R) {r}, modified (M) {m}, user bits (USR) {usr}, frame number (PFN) {pfn}"
     )?;
     Ok(())
 }
@@ -203,11 +226,15 @@ fn show_found(rt: &LibcRuntime, found: &Found) -> Result<(), AnyError> {
         "   second entry, at {table} x 4096 + 4 x {second} = {address:#010x}: {entry:#010x}"
     )?;
     show_fields(rt, entry)?;
-    let table = frame(entry);
+    let page_frame = frame(entry);
     let physical = found.physical;
     println!(
         rt,
-        "   physical address: {table} x 4096 + {byte} = {physical:#010x}"
+        "   physical address: {page_frame} x 4096 + {byte} = {physical:#010x}"
+    )?;
+    println!(
+        rt,
+        "   (Protection is not asked and nothing is marked here: that is the unit's work.)"
     )?;
     Ok(())
 }
@@ -273,12 +300,19 @@ fn show_write(
 }
 
 fn tour(rt: &LibcRuntime) -> Result<(), AnyError> {
+    println!(
+        rt,
+        "A tide table lies in a page of virtual memory. The tour finds the low water of one harbour in it."
+    )?;
     let mut ram = [0u8; 0x8000];
     let rom = [0x5au8; 0x1000];
     let mut memory = assemble(rt, &mut ram, &rom)?;
     fill(rt, &mut memory)?;
     let physical = find(rt, &memory)?;
-    println!(rt, "4. Read the double-word there: the low water.")?;
+    println!(
+        rt,
+        "4. Read the double-word there: the low water of the second harbour."
+    )?;
     show_read(rt, &memory, physical)?;
     println!(
         rt,
@@ -289,7 +323,7 @@ fn tour(rt: &LibcRuntime) -> Result<(), AnyError> {
         rt,
         "6. Another: the ROM cannot be written, and stays as it is."
     )?;
-    show_write(rt, &mut memory, ROM_PLACE, LOW_WATER)?;
+    show_write(rt, &mut memory, ROM_PLACE, FIRST_LOW)?;
     show_read(rt, &memory, ROM_PLACE)
 }
 

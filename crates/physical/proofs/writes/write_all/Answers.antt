@@ -6,7 +6,7 @@ use borrow.Author.Needs.{needs}
 use Rattle.std.proofs.shelf.Lists.{at-drop-all}
 use Rattle.std.proofs.shelf.Ways.{tells}
 use Rattle.physical.specs.Writes.{accepted-count, after-writes}
-use Rattle.physical.proofs.Written.{after-more, count-more, last-write-stands, one-write}
+use Rattle.physical.proofs.Written.{after-more, count-more, last-write-stands, one-write, reasons}
 use Rattle.physical.proofs.writes.write_all.Given as given
 use Rattle.physical.proofs.writes.write_all.Needs as need
 
@@ -51,4 +51,5 @@ returns g c =
       lends = c .loop-write .inv .3;
       stands = last-write-stands _ first ws _ leaves;
       single = one-write;
+      reasons = reasons;
     }
