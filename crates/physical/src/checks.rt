@@ -58,7 +58,7 @@ pub fn check_boundary(address: u32) -> Result<(), AssemblyError>
 }
 
 // The double-word at which a split or a shift lies: the address without its bits below the granule.
-pub fn boundary(address: u32) -> u32
+pub(crate) fn boundary(address: u32) -> u32
     ensures { λ r. ⌜ r ≡ boundary-dword address ⌝ }
 {
     (address - address % GRANULE) / 4

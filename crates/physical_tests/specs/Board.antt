@@ -1,4 +1,4 @@
--- What the board of another maker holds: an identification that can only be read, one register, and nothing else.
+-- What a board that is implemented elsewhere holds: an identification that can only be read, one register, and nothing else.
 use mathlib.Core.Bool.{cond}
 use lib.Dec.{eqb}
 use Rattle.std.specs.declared.option.Option.the-variants.{Some, None}

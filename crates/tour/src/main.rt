@@ -40,8 +40,6 @@ use physical::writes::Write;
 use physical::writes::write_all;
 use std::error::AnyError;
 
-mod lookup;
-
 // The RAM below 32,768, nothing up to 65,536, and the ROM from there on.
 type Machine<'a> = Pair<Ram<'a>, Shift<Rom<'a>>>;
 

@@ -1,7 +1,7 @@
 // Looks a virtual address up by reading both table entries. It asks only that they are there and valid.
 ghost use mathlib.Core.Path.{_≡_};
 ghost use Rattle.physical.specs.Stores.{dword};
-ghost use Rattle.tour.specs.Lookup.{looked-up, step-of};
+ghost use Rattle.lookup.specs.Lookup.{looked-up, step-of};
 use entry::geometry::first_entry_address;
 use entry::geometry::offset;
 use entry::geometry::page_number;

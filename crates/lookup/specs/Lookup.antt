@@ -7,10 +7,10 @@ use Rattle.std.specs.declared.result.Result.{Result}
 use Rattle.std.specs.declared.result.Result.the-variants.{Ok, Err}
 use Rattle.physical.specs.Stores.{Values, dword}
 use Rattle.entry.specs.NS32382.{ns32382}
-use Rattle.tour.specs.declared.lookup.Step.{Step}
-use Rattle.tour.specs.declared.lookup.Found.{Found}
-use Rattle.tour.specs.declared.lookup.Miss.{Miss}
-use Rattle.tour.specs.declared.lookup.Miss.the-variants.{Absent, Invalid}
+use Rattle.lookup.specs.declared.Step.{Step}
+use Rattle.lookup.specs.declared.Found.{Found}
+use Rattle.lookup.specs.declared.Miss.{Miss}
+use Rattle.lookup.specs.declared.Miss.the-variants.{Absent, Invalid}
 
 -- the entry at an address, if it is there and valid
 abbrev pub step-of : Option ℕ → ℕ → Result Step Miss
