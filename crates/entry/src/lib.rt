@@ -68,6 +68,15 @@ impl EntryFields {
     }
 }
 
+// What stands of the definitions that the contracts of this crate cite: both ways round of taking apart and putting
+// together, the laws of the layout, the bits of an address, and worked figures. It is there for its contract.
+pub fn layout_stands()
+    ensures trips { λ _. ⌜ RoundTrips ⌝ }
+    ensures lawful { λ _. ⌜ Lawful ns32382 ⌝ }
+    ensures address { λ _. ⌜ AddressBits ⌝ }
+    ensures figures { λ _. ⌜ Figures ⌝ }
+{}
+
 fn take_apart(entry: u32) -> EntryFields
     ensures { λ r. ⌜ r ≡ fields-of entry ⌝ }
 {
@@ -100,12 +109,3 @@ fn put_together(fields: &EntryFields) -> Option<u32>
             + fields.frame * 4096,
     )
 }
-
-// What stands of the definitions that the contracts of this crate cite: both ways round of taking apart and putting
-// together, the laws of the layout, the bits of an address, and worked figures. It is there for its contract.
-pub fn layout_stands()
-    ensures trips { λ _. ⌜ RoundTrips ⌝ }
-    ensures lawful { λ _. ⌜ Lawful ns32382 ⌝ }
-    ensures address { λ _. ⌜ AddressBits ⌝ }
-    ensures figures { λ _. ⌜ Figures ⌝ }
-{}
