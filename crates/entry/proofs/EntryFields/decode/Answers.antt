@@ -5,5 +5,5 @@ use Rattle.entry.proofs.EntryFields.decode.Goals as goal
 
 pub returns : goal.returns
 returns c =
-    let is = c.take-apart.ensures in
+    let is = c.take_apart.ensures in
     record { value = is; back = ap encoded is ∙ round_trips.same_bits c.args.entry c.ranges.entry.fits }

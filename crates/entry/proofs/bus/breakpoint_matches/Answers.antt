@@ -10,4 +10,4 @@ returns c =
     let b = c.args.breakpoint in
     let m = c.args.mask in
     let same = Decides-like (eqb (bit_and a m) (bit_and b m)) (masked_agree a b m) (agree_masked a b m) (Decides-eqb (bit_and a m) (bit_and b m)) in
-    record { value = c.equal-masked.ensures; bits = Decides-at c.equal-masked.result _ c.equal-masked.ensures same }
+    record { value = c.equal_masked.ensures; bits = Decides-at c.equal_masked.result _ c.equal_masked.ensures same }
