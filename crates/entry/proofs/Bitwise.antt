@@ -1,12 +1,11 @@
 -- Bits and fields of numbers joined by `bit_or` or masked by `bit_and`.
-use Rattle.std.proofs.Common.{◌≡◌, ℕ, zero, suc, ◌+◌, ◌-◌, ◌*◌, ◌/◌, ◌%◌, ◌^◌, ◌<◌, min, eqb, sym, refl, ap, ◌∙◌, ap₂, inl, inr, div-one, arith}
+use Rattle.std.proofs.Common.{◌≡◌, ℕ, zero, suc, ◌+◌, ◌-◌, ◌*◌, ◌/◌, ◌%◌, ◌^◌, ◌<◌, min, sym, refl, ap, ◌∙◌, ap₂, inl, inr, div-one, arith}
 use native.Mathlib.Nat.{div-eq_of_lt, mod-mod, min-zero}
 use lib.Arith.{bin_ind}
 use lib.Bits.{bit_and, bit_or, and_step, and_zero_r, and_high, or_zero_r}
-use Rattle.std.proofs.lemmas.Nat.{pow-add, pow_pos, pow_below, shl-shr, shr-shr, and_mask, and_mod, and_shr, or_mod, or_shr}
+use Rattle.std.proofs.lemmas.Nat.{pow-add, pow_below, shl-shr, shr-shr, and_mask, and_mod, and_shr, or_mod, or_shr}
 use Rattle.std.proofs.lemmas.Bool.{cases_order}
-use Rattle.std.proofs.lemmas.Bool.Decides.{nat_tests}
-use Rattle.entry.specs.Bits.{bit, field, flag}
+use Rattle.entry.specs.Bits.{bit, field}
 use Rattle.entry.specs.Bus.{Agrees}
 
 -- a field of a join is the join of the fields

@@ -1,5 +1,8 @@
 // Page table entries of the NS32382, and the arithmetic around them. A virtual address is looked up in two tables:
 // an entry of the first leads to a table of the second level, whose entry leads to the page's frame.
+
+#![tactic(auto)]
+
 ghost use Rattle.std.specs.Prelude.{◌≡◌, IfSome, Some as Present};
 ghost use Rattle.entry.specs.Fields.{RoundTrips, encoded, fields_of};
 ghost use Rattle.entry.specs.Figures.{Figures};

@@ -1,4 +1,7 @@
 // Tests of the crate `entry` on concrete values.
+
+#![tactic(auto)]
+
 #[cfg(test)]
 mod tests {
     use entry::access::{AccessKind, Mode, access_level, effective_protection, permits};

@@ -1,4 +1,7 @@
 // What holds of every run of the unit, proved of its definitions.
+
+#![tactic(auto)]
+
 ghost use Rattle.entry.specs.Layout.{Layout, Lawful};
 ghost use Rattle.entry.specs.NS32382.{ns32382};
 ghost use Rattle.laws.specs.RunLaws.{RunLaws};

@@ -1,4 +1,7 @@
 // Looks a virtual address up by reading both table entries. It asks only that they are there and valid.
+
+#![tactic(auto)]
+
 ghost use Rattle.std.specs.Prelude.{◌≡◌};
 ghost use Rattle.physical.specs.Stores.{dword};
 ghost use Rattle.lookup.specs.Lookup.{looked_up, step_of};

@@ -1,5 +1,8 @@
 // The unit, defined: the types that code and theory share, with what each call does. The definitions are in specs/, read
 // next to docs/unit.md; no call is carried out here.
+
+#![tactic(auto)]
+
 ghost use Rattle.model.specs.Examples.{WorkedRun, WriteRun};
 
 pub mod call;

@@ -1,9 +1,8 @@
 -- The law of lists of writes: what stands in a double-word is the last accepted write to it.
-use Rattle.std.proofs.Common.{◌≡◌, ℕ, ◌+◌, ◌<◌, Bool, true, false, cond, ◌&&◌, eqb, ◌⊎◌, List, [], ◌∷◌, ◌++◌, length, get_or, drop, is_some, is_ok, Some, None, Ok, Err, Option, sym, refl, ap, ◌∙◌, subst, inl, inr, ⊎_elim, arith}
+use Rattle.std.proofs.Common.{◌≡◌, ℕ, ◌+◌, ◌<◌, Bool, true, false, cond, List, [], ◌∷◌, ◌++◌, length, get_or, drop, is_some, is_ok, Some, None, Ok, Err, Option, sym, refl, ap, ◌∙◌, subst, ⊎_elim, arith}
 use mathlib.Core.Path.{fun_ext}
 use Rattle.std.proofs.lemmas.List.{at_drop_more}
 use Rattle.std.proofs.lemmas.Bool.{cases_Bool, cases_eq, eq-eqb, ne_eqb}
-use Rattle.std.proofs.lemmas.Bool.Decides.{nat_tests}
 use Rattle.physical.specs.Stores.{Values, Writable, dword, read_answer, replaced, write_answer, written}
 use Rattle.physical.specs.Writes.{LastAccepted, LastWriteStands, NoneAccepted, OneWrite, Reasons, Stands, as_at_first, as_written, accepted, accepted_count, after_write, after_writes, outcome_number}
 use Rattle.physical.specs.declared.MemoryError.{MemoryError}

@@ -1,5 +1,5 @@
 -- Bytes that stand as double-words, the lowest byte first.
-use Rattle.std.specs.Prelude.{ℕ, ◌+◌, ◌-◌, ◌*◌, ◌/◌, ◌%◌, Bool, cond, ◌&&◌, List, length, Some, None, Option, ◌==◌, nat_le, slice_index, slice_set}
+use Rattle.std.specs.Prelude.{ℕ, ◌+◌, ◌-◌, ◌*◌, ◌/◌, ◌%◌, Bool, cond, ◌&&◌, List, length, Some, None, ◌==◌, nat_le, slice_index, slice_set}
 use Rattle.physical.specs.Stores.{Values}
 use Rattle.physical.specs.Checks.{range_rule}
 

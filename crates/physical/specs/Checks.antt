@@ -1,5 +1,5 @@
 -- What the checks of lengths, starts and boundaries answer.
-use Rattle.std.specs.Prelude.{ℕ, ◌+◌, ◌-◌, ◌/◌, ◌%◌, Bool, true, false, cond, not, ◌&&◌, ◌||◌, Ok, Err, Result, ◌==◌, nat_le}
+use Rattle.std.specs.Prelude.{ℕ, ◌+◌, ◌-◌, ◌/◌, ◌%◌, Bool, cond, not, ◌&&◌, Ok, Err, Result, ◌==◌, nat_le}
 use Rattle.physical.specs.declared.checks.AssemblyError.{AssemblyError}
 use Rattle.physical.specs.declared.checks.AssemblyError.TheVariants.{Length, Placement, Boundary}
 

@@ -1,5 +1,5 @@
 -- What a readable store and a memory hold, double-word by double-word.
-use Rattle.std.specs.Prelude.{◌≡◌, ℕ, ◌/◌, ◌%◌, Bool, true, false, cond, Some, None, Ok, Err, Option, Result, ◌==◌}
+use Rattle.std.specs.Prelude.{ℕ, ◌/◌, ◌%◌, Bool, true, false, cond, Some, None, Ok, Err, Option, Result, ◌==◌}
 use Rattle.physical.specs.declared.MemoryError.{MemoryError}
 use Rattle.physical.specs.declared.MemoryError.TheVariants.{Absent, ReadOnly}
 

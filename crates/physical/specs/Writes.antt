@@ -1,5 +1,5 @@
 -- Lists of writes: what they leave, and the law of what a read then answers.
-use Rattle.std.specs.Prelude.{◌≡◌, ℕ, ◌+◌, Bool, true, false, cond, List, [], ◌∷◌, ◌++◌, is_some, is_ok, Some, None, Ok, Err, Option, Result, ◌≢◌}
+use Rattle.std.specs.Prelude.{◌≡◌, ℕ, ◌+◌, Bool, true, false, cond, List, [], ◌∷◌, ◌++◌, is_some, is_ok, Some, Ok, Err, Option, Result, ◌≢◌}
 use Rattle.physical.specs.Stores.{Values, Writable, dword, read_answer, reason_number, write_answer, written}
 use Rattle.physical.specs.declared.MemoryError.{MemoryError}
 use Rattle.physical.specs.declared.writes.Write.{Write}

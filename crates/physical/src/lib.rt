@@ -1,4 +1,7 @@
 // Physical memory: what can be read, what can be written, and what each call leaves.
+
+#![tactic(auto)]
+
 ghost use Rattle.std.specs.Prelude.{◌≡◌};
 ghost use Rattle.physical.specs.Loans.{Loans, none};
 ghost use Rattle.physical.specs.Stores.{Values, Writable, dword, read_answer, reason_number, write_answer, written};

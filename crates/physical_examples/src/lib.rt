@@ -1,4 +1,7 @@
 // Memories in use, with what comes out proved.
+
+#![tactic(auto)]
+
 ghost use Rattle.std.specs.Prelude.{◌≡◌, true, false, length, None as Nothing, Ok, Err, ◌==◌};
 ghost use Rattle.physical.specs.Bytes.{laid_checked};
 ghost use Rattle.physical.specs.Checks.{range_rule};

@@ -1,4 +1,7 @@
 // Tests of the physical memories.
+
+#![tactic(auto)]
+
 pub mod board;
 
 #[cfg(test)]

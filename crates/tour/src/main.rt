@@ -1,5 +1,8 @@
 // A walk through one real task, each step printed: a machine's memory is assembled, a two-level page table and a
 // page of data are written into it, a virtual address is looked up, and the double-word there is read.
+
+#![tactic(auto)]
+
 ghost use Rattle.std.specs.Prelude.{◌≡◌, ◌/◌, true, false, IfOk, Some as Present};
 ghost use Rattle.entry.specs.Fields.{encoded};
 

@@ -1,4 +1,4 @@
-use Rattle.std.proofs.Common.{◌≡◌, refl, ◌∙◌}
+use Rattle.std.proofs.Common.{◌∙◌}
 use Rattle.physical_examples.specs.Machine.{exercised}
 use Rattle.physical_examples.proofs.rom_below_ram.Goals as goal
 

@@ -1,8 +1,6 @@
-use Rattle.std.proofs.Common.{◌≡◌, ◌-◌, ◌*◌, ◌/◌, ◌%◌, ◌^◌, ◌<◌, sym, ap, ◌∙◌, subst, arith}
+use Rattle.std.proofs.Common.{◌-◌, ◌/◌, ◌^◌, ◌<◌, sym, ap, ◌∙◌, subst}
 use lib.Bits.{bit_and}
 use Rattle.std.proofs.lemmas.Nat.{and_mask, mod_below, one_shl, pow_pos}
-use Rattle.entry.specs.Bits.{field}
-use Rattle.entry.proofs.bits.field_at.Given as given
 use Rattle.entry.proofs.bits.field_at.Goals as goal
 
 pub returns : goal.returns

@@ -1,4 +1,4 @@
-use Rattle.std.proofs.Common.{eqb, sym}
+use Rattle.std.proofs.Common.{eqb}
 use lib.Bits.{bit_and}
 use Rattle.std.proofs.lemmas.Bool.Decides.{Decides-at, Decides-eqb, Decides-like}
 use Rattle.entry.proofs.Bitwise.{agree_masked, masked_agree}
