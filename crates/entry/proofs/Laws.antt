@@ -4,7 +4,7 @@ use lib.Bits.{bit_or}
 use Rattle.std.proofs.lemmas.Bool.{eqb-true}
 use Rattle.entry.specs.Bits.{bit, flag}
 use Rattle.entry.specs.Fields.{fields_of}
-use Rattle.entry.specs.Layout.{Lawful}
+use Rattle.entry.specs.Layout.{DistinctFrames, Lawful}
 use Rattle.entry.specs.NS32382.{AddressBits, ns32382, second_only, mark_second}
 use Rattle.entry.specs.declared.EntryFields.{EntryFields}
 use Rattle.entry.specs.declared.TableLevel.{TableLevel}
@@ -56,17 +56,20 @@ lawful = record {
   first_modified = λ e. refl;
   first_inhibit = λ e. refl;
   protection_small = λ e. omega arith;
-  pages_fit = lit≤ tt;
-  address_parts = λ a h. omega arith;
+  address_parts = λ a. omega arith;
   offset_small = λ a. omega arith;
-  page_start = λ p h. omega arith;
+  page_start = λ p. omega arith;
+  pages_fit = lit≤ tt;
+  page_small = λ a h. omega arith;
   base_zero = refl;
   base_again = λ v. omega arith;
   first_entry_small = λ v p h. omega arith;
   second_entry_small = λ f p. omega arith;
   physical_small = λ f a. omega arith;
-  physical_frame = λ e f a h. same_frame (ns32382.frame e) (ns32382.frame f) (ns32382.offset a) (omega arith) (omega arith) h;
 }
+
+pub distinct_frames : DistinctFrames ns32382
+distinct_frames e f a h = same_frame (ns32382.frame e) (ns32382.frame f) (ns32382.offset a) (omega arith) (omega arith) h
 
 pub address_bits : AddressBits
 address_bits = record {

@@ -56,11 +56,12 @@ pub record Lawful (l : Layout) : Type 0 where
   pub first_inhibit : (e : ℕ) → l.inhibit First e ≡ false
   -- protection levels are 0 to 3
   pub protection_small : (e : ℕ) → l.protection e ≤ 3
-  -- the addresses of the pages there are have 32 bits at most; each is its page number and its offset
-  pub pages_fit : l.page_count * l.page_size ≤ 2 ^ 32
-  pub address_parts : (a : ℕ) → a < l.page_count * l.page_size → a ≡ l.page a * l.page_size + l.offset a
+  -- an address is its page number and its offset; each page number below the limit has an address of 32 bits
+  pub address_parts : (a : ℕ) → a ≡ l.page a * l.page_size + l.offset a
   pub offset_small : (a : ℕ) → l.offset a < l.page_size
-  pub page_start : (p : ℕ) → p < l.page_count → l.page (p * l.page_size) ≡ p
+  pub page_start : (p : ℕ) → l.page (p * l.page_size) ≡ p
+  pub pages_fit : l.page_count * l.page_size ≤ 2 ^ 32
+  pub page_small : (a : ℕ) → a < 2 ^ 32 → l.page a < l.page_count
   -- a base register holds zero where zero is loaded, and what it holds loads as itself
   pub base_zero : l.base 0 ≡ 0
   pub base_again : (v : ℕ) → l.base (l.base v) ≡ l.base v
@@ -68,5 +69,7 @@ pub record Lawful (l : Layout) : Type 0 where
   pub first_entry_small : (v p : ℕ) → v < 2 ^ 32 → l.first_entry (l.base v) p < 2 ^ 32
   pub second_entry_small : (f p : ℕ) → l.second_entry f p < 2 ^ 32
   pub physical_small : (f a : ℕ) → l.physical f (l.offset a) < 2 ^ 32
-  -- the frames of two entries are told apart by where they put one and the same address
-  pub physical_frame : (e f a : ℕ) → l.physical (l.frame e) (l.offset a) ≡ l.physical (l.frame f) (l.offset a) → l.frame e ≡ l.frame f
+
+-- the frames of two entries are told apart by where they put one and the same address
+abbrev pub DistinctFrames : Layout → Type 0
+DistinctFrames l = (e f a : ℕ) → l.physical (l.frame e) (l.offset a) ≡ l.physical (l.frame f) (l.offset a) → l.frame e ≡ l.frame f

@@ -6,7 +6,7 @@
 ghost use Rattle.std.specs.Prelude.{◌≡◌, IfSome, Some as Present};
 ghost use Rattle.entry.specs.Fields.{RoundTrips, encoded, fields_of};
 ghost use Rattle.entry.specs.Figures.{Figures};
-ghost use Rattle.entry.specs.Layout.{Lawful};
+ghost use Rattle.entry.specs.Layout.{DistinctFrames, Lawful};
 ghost use Rattle.entry.specs.NS32382.{AddressBits, ns32382};
 
 use bits::{bit_value, field_at};
@@ -69,6 +69,7 @@ impl EntryFields {
 pub fn layout_stands()
     ensures trips { RoundTrips }
     ensures lawful { Lawful ns32382 }
+    ensures frames { DistinctFrames ns32382 }
     ensures address { AddressBits }
     ensures figures { Figures }
 {}

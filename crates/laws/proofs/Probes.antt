@@ -4,7 +4,7 @@ use Rattle.std.proofs.Common.{◌≡◌, ℕ, zero, suc, ◌*◌, ◌^◌, ◌<�
 use Rattle.std.proofs.lemmas.Bool.Decides.{nat_tests}
 use Rattle.entry.specs.Access.{access_level, permits}
 use Rattle.entry.specs.Bits.{flag}
-use Rattle.entry.specs.Layout.{Layout, Lawful}
+use Rattle.entry.specs.Layout.{DistinctFrames, Layout, Lawful}
 use Rattle.entry.specs.declared.TableLevel.TheVariants.{First, Second}
 use Rattle.entry.specs.declared.access.AccessKind.{AccessKind}
 use Rattle.entry.specs.declared.access.AccessKind.TheVariants.{Read, Write}
@@ -106,7 +106,7 @@ hit_ended l laws w q r m frame inhibit same = on (walked l q r m w) (walks l law
         (λ a. seen_value (m (dword a)) (p (dword a)) (w (dword a)) (w (dword a)) (e.memory (dword a) (dword_small a)))
         (inner _ _ (sym e.answer))
 
-module _ (l : Layout) (laws : Lawful l) (w : Writable) (s : State) (tag : Tag) (nameable : Nameable l tag) (h : Hit) (kept : find tag s.tlb.slots ≡ Some h)
+module _ (l : Layout) (laws : Lawful l) (frames : DistinctFrames l) (w : Writable) (s : State) (tag : Tag) (nameable : Nameable l tag) (h : Hit) (kept : find tag s.tlb.slots ≡ Some h)
     (transparent : Transparent l w s tag) where
   abbrev address : ℕ
   address = tag.page * l.page_size
@@ -122,7 +122,7 @@ module _ (l : Layout) (laws : Lawful l) (w : Writable) (s : State) (tag : Tag) (
     r = set_to p.setting s.registers
 
     sought_here : (kind : AccessKind) → sought l r (asks kind) ≡ tag
-    sought_here kind = let page = laws.page_start tag.page nameable.1 in let space = p.spaces in λ i. record { space = space i; page = page i }
+    sought_here kind = let page = laws.page_start tag.page in let space = p.spaces in λ i. record { space = space i; page = page i }
 
     read_gate : access_gate r 1 0 address ≡ looking (asks Read)
     read_gate = rw (p.no_read_break, access_gate, p.translates)
@@ -205,7 +205,7 @@ module _ (l : Layout) (laws : Lawful l) (w : Writable) (s : State) (tag : Tag) (
         first_used = subst (λ g. Used l (l.first_entry (base_of s.registers tag) g.page) s.values n.first) (sym tagged) n.first_used;
         second_used = subst (λ g. Used l (l.second_entry (l.frame n.first) g.page) s.values n.second) (sym tagged) n.second_used;
         protection = levels h.translation.protection (min (l.protection n.first) (l.protection n.second)) size.small (omega arith) v1 v2 v3;
-        frame = framed ∙ laws.physical_frame size.entry n.second address (ap (λ x. l.physical x (l.offset address)) (sym framed) ∙ sym n.placed);
+        frame = framed ∙ frames size.entry n.second address (ap (λ x. l.physical x (l.offset address)) (sym framed) ∙ sym n.placed);
         inhibit = sym n.inhibits;
         modified = λ d above.
             let y = accessed_ended true over 1 Write (write_gate true over) (rw (level_here true over Write) (one_permits h.translation.protection above)) d in

@@ -1,6 +1,6 @@
 -- Transparent exactly where nothing stale is kept.
 use Rattle.std.proofs.Common.{◌≡◌, Some, None, Option, sym, refl, ap, ◌∙◌, subst}
-use Rattle.entry.specs.Layout.{Layout, Lawful}
+use Rattle.entry.specs.Layout.{DistinctFrames, Layout, Lawful}
 use Rattle.physical.specs.Stores.{Writable}
 use Rattle.model.specs.declared.translation.Tag.{Tag}
 use Rattle.model.specs.Calls.{after, start}
@@ -28,16 +28,16 @@ transparent l laws w s tag none = record {
     kept : (v : Setting) (g : Tag) → g ≡ tag → KeptCurrent l (under v s) g
     kept v g same i t h e = current_tells l s.registers s.values t (none i t h (e ∙ same))
 
-pub none_stale : (l : Layout) → Lawful l → (w : Writable) (s : State) → Invariant l s.tlb.slots → (tag : Tag) → Nameable l tag → Transparent l w s tag → NoneStale l s tag
-none_stale l laws w s v tag nameable clear i t h e =
+pub none_stale : (l : Layout) → Lawful l → DistinctFrames l → (w : Writable) (s : State) → Invariant l s.tlb.slots → (tag : Tag) → Nameable l tag → Transparent l w s tag → NoneStale l s tag
+none_stale l laws frames w s v tag nameable clear i t h e =
     let (y, found, same) = kept_found s.tlb.slots v.unique i t tag h e in
-    let c = probed l laws w s tag nameable y found clear (subst (λ z. Sized l z) (sym same) (v.sized i t h)) (ap (λ z. z.tag) same ∙ e) in
+    let c = probed l laws frames w s tag nameable y found clear (subst (λ z. Sized l z) (sym same) (v.sized i t h)) (ap (λ z. z.tag) same ∙ e) in
     let d : Current l (base_of s.registers tag) s.values t = subst (λ z. Current l (base_of s.registers tag) s.values z) same c in
     tells_current l s.registers s.values t (subst (λ g. Current l (base_of s.registers g) s.values t) (sym e) d)
 
-pub transparent_iff_none_stale : (l : Layout) → Lawful l → TransparentIffNoneStale l
-transparent_iff_none_stale l laws w m calls tag nameable =
-    (transparent l laws w (after l w calls (start m)).unit tag, none_stale l laws w (after l w calls (start m)).unit (invariant_run l laws w m calls) tag nameable)
+pub transparent_iff_none_stale : (l : Layout) → Lawful l → DistinctFrames l → TransparentIffNoneStale l
+transparent_iff_none_stale l laws frames w m calls tag nameable =
+    (transparent l laws w (after l w calls (start m)).unit tag, none_stale l laws frames w (after l w calls (start m)).unit (invariant_run l laws w m calls) tag nameable)
 
 pub unsought_alike : (l : Layout) → UnsoughtAlike l
 unsought_alike l = record {
