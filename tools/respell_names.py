@@ -1,12 +1,14 @@
 #!/usr/bin/env python3
 """Spells the repository's own definitions and lemmas in snake case, as `read-gate` to `read_gate`.
 
-usage: python3 tools/respell_names.py [--check]     at the top of the repository
+usage: python3 tools/respell_names.py [--check] [--list]     at the top of the repository
 
-A name turns if a file of specs/ or proofs/ declares it with a dash: a definition, a lemma, a field, a constructor or a
-variable that it binds. It turns in all .antt files, in the clauses and `ghost use` items of .rt files, and in code
-spans of comments and pages. Goals that the checker names (`x : goal.x`) and names of libraries stay.
---check writes nothing. Names that would meet another name are listed, and then nothing is written.
+A name turns if a file of specs/ or proofs/ declares it with a dash (a definition, a lemma, a field, a constructor or a
+variable that it binds), or if an import gives it. It turns in the code of .antt files, in .rt files outside comments and
+strings (where Rust itself writes no name with a dash), and in code spans of comments and of pages but docs/PORT.md.
+Goals that the checker names (`x : goal.x`) and names of libraries stay.
+--check writes nothing; --list prints the names. A name that would meet another name of an .antt file is listed, and then
+nothing is written.
 """
 
 import pathlib
@@ -53,7 +55,9 @@ def own_names():
             names.update(re.findall(NAME, left))
     # names that an import gives
     for path in list(antt_files()) + sorted(ROOT.glob("crates/*/src/**/*.rt")):
-        names.update(re.findall(rf" as ({NAME})", path.read_text()))
+        for line in path.read_text().split("\n"):
+            if re.match(r"(ghost )?use ", line):
+                names.update(re.findall(rf" as ({NAME})", line))
     return {n for n in names if DASHED.match(n)} - LIBRARY
 
 
@@ -94,6 +98,9 @@ def turned_rust(text, table):
 
 
 def main():
+    if set(sys.argv[1:]) - {"--check", "--list"}:
+        print(__doc__.split("\n\n")[1], file=sys.stderr)
+        return 2
     names = own_names() - goals()
     table = {n: n.replace("-", "_") for n in sorted(names)}
     present = {}

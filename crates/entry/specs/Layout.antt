@@ -1,5 +1,5 @@
 -- What a page table walk asks of table entries and of addresses: a record of operations, and the laws that they
--- owe. A walk, and all that is proved of it, rests on the laws alone, so that another layout can be given.
+-- owe. A walk, and all that is proved of it, rests on what is asked here alone, so that another layout can be given.
 use Rattle.std.specs.Prelude.{◌≡◌, ℕ, ◌+◌, ◌*◌, ◌^◌, ◌<◌, ◌≤◌, Bool, true, false}
 use Rattle.entry.specs.declared.TableLevel.{TableLevel}
 use Rattle.entry.specs.declared.TableLevel.TheVariants.{First, Second}
@@ -70,6 +70,6 @@ pub record Lawful (l : Layout) : Type 0 where
   pub second_entry_small : (f p : ℕ) → l.second_entry f p < 2 ^ 32
   pub physical_small : (f a : ℕ) → l.physical f (l.offset a) < 2 ^ 32
 
--- the frames of two entries are told apart by where they put one and the same address
+-- what the laws of runs ask besides: the frames of two entries are told apart by where they put one and the same address
 abbrev pub DistinctFrames : Layout → Type 0
 DistinctFrames l = (e f a : ℕ) → l.physical (l.frame e) (l.offset a) ≡ l.physical (l.frame f) (l.offset a) → l.frame e ≡ l.frame f
