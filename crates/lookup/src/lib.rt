@@ -11,6 +11,7 @@ use entry::geometry::{
 };
 use entry::operations::{frame, valid};
 use physical::ReadableStore;
+use thiserror::Error;
 
 // An entry, and where it was read.
 #[derive(Clone, Copy, PartialEq, Eq, Debug)]
@@ -28,18 +29,18 @@ pub struct Found {
 }
 
 // Why a look-up stops, with the address of the entry.
-#[derive(Clone, Copy, PartialEq, Eq, Debug)]
+#[derive(Clone, Copy, PartialEq, Eq, Debug, Error)]
 pub enum Miss {
+    #[error("an entry is absent")]
     Absent(u32),
+    #[error("an entry is invalid")]
     Invalid(u32),
 }
 
 fn entry_at<S: ReadableStore>(store: &S, address: u32) -> Result<Step, Miss>
     ensures { result ≡ step_of (S.ReadableStore.values store.now (dword address)) address }
 {
-    let Ok(entry) = store.read(address) else {
-        return Err(Miss::Absent(address));
-    };
+    let entry = store.read(address).map_err(|_| Miss::Absent(address))?;
     if valid(entry) {
         Ok(Step { address, entry })
     } else {

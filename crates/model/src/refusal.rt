@@ -51,12 +51,12 @@ pub struct Report {
     pub reason: u8,
 }
 
-impl Abort {
-    // An abort in numbers.
-    pub fn report(&self) -> Report
-        ensures { result ≡ abort_report self.now }
-    {
-        match *self {
+// An abort in numbers.
+impl From<Abort> for Report {
+    ghost from_gives = { λ x r. r ≡ abort_report x };
+
+    fn from(abort: Abort) -> Report {
+        match abort {
             Abort::Breakpoint => number_only(10),
             Abort::InvalidEntry { level, address } => {
                 let number = match level {
@@ -70,17 +70,17 @@ impl Abort {
                 level,
                 address,
                 reason,
-            } => { of_entry(14, level, address, reason.reason()) }
+            } => { of_entry(14, level, address, u8::from(reason)) }
         }
     }
 }
 
-impl Refusal {
-    // A refusal in numbers.
-    pub fn report(&self) -> Report
-        ensures { result ≡ report_of self.now }
-    {
-        match *self {
+// A refusal in numbers.
+impl From<Refusal> for Report {
+    ghost from_gives = { λ x r. r ≡ report_of x };
+
+    fn from(refusal: Refusal) -> Report {
+        match refusal {
             Refusal::UnknownRegister => number_only(4),
             Refusal::WriteOnlyRegister => number_only(5),
             Refusal::BadAccess => number_only(6),
@@ -90,9 +90,9 @@ impl Refusal {
                 number: 9,
                 level: 0,
                 address,
-                reason: reason.reason(),
+                reason: u8::from(reason),
             },
-            Refusal::Aborted(abort) => abort.report(),
+            Refusal::Aborted(abort) => Report::from(abort),
             Refusal::BadEntryName => number_only(15),
             Refusal::EntryNotWritten => number_only(16),
         }

@@ -1,8 +1,9 @@
 -- The law of lists of writes: what stands in a double-word is the last accepted write to it.
-use Rattle.std.proofs.Common.{◌≡◌, ℕ, ◌+◌, ◌<◌, Bool, true, false, cond, List, [], ◌∷◌, ◌++◌, length, get_or, drop, is_some, is_ok, Some, None, Ok, Err, Option, sym, refl, ap, ◌∙◌, subst, ⊎_elim, arith}
+use Rattle.std.proofs.Common.{◌≡◌, ℕ, ◌+◌, ◌<◌, Bool, true, false, if◌then◌else◌, List, [], ◌∷◌, ◌++◌, length, get_or, drop, is_some, is_ok, Some, None, Ok, Err, Option, sym, refl, ap, ◌∙◌, subst, ⊎_elim}
 use mathlib.Core.Path.{fun_ext}
 use Rattle.std.proofs.lemmas.List.{at_drop_more}
 use Rattle.std.proofs.lemmas.Bool.{cases_Bool, cases_eq, eq-eqb, ne_eqb}
+use Rattle.std.specs.Int.{from_bool}
 use Rattle.physical.specs.Stores.{Values, Writable, dword, read_answer, replaced, write_answer, written}
 use Rattle.physical.specs.Writes.{LastAccepted, LastWriteStands, NoneAccepted, OneWrite, Reasons, Stands, as_at_first, as_written, accepted, accepted_count, after_write, after_writes, outcome_number}
 use Rattle.physical.specs.declared.MemoryError.{MemoryError}
@@ -11,13 +12,13 @@ use Rattle.physical.specs.declared.writes.Write.{Write}
 -- a write in the double-word itself
 refused_replaced : (o : Option ℕ) (w : Bool) (v : ℕ) (e : MemoryError) → write_answer o w ≡ Err e → replaced v o w ≡ o
 refused_replaced None w v e h = refl
-refused_replaced (Some u) true v e h = let z : ◌≡◌ {A = ℕ} 0 1 = cc in absurd (omega arith)
+refused_replaced (Some u) true v e h = cc
 refused_replaced (Some u) false v e h = refl
 
 accepted_replaced : (o : Option ℕ) (w : Bool) (v : ℕ) → write_answer o w ≡ Ok tt → replaced v o w ≡ Some v
-accepted_replaced None w v h = let z : ◌≡◌ {A = ℕ} 0 1 = cc in absurd (omega arith)
+accepted_replaced None w v h = cc
 accepted_replaced (Some u) true v h = refl
-accepted_replaced (Some u) false v h = let z : ◌≡◌ {A = ℕ} 0 1 = cc in absurd (omega arith)
+accepted_replaced (Some u) false v h = cc
 
 present_replaced : (o : Option ℕ) (w : Bool) (v : ℕ) → is_some (replaced v o w) ≡ is_some o
 present_replaced None w v = refl
@@ -34,11 +35,11 @@ module _ (m : Values) (w : Writable) (k v : ℕ) where
   written_present : (q : ℕ) → is_some (written m w k v q) ≡ is_some (m q)
   written_present q = ⊎_elim (λ (e : q ≡ k). rw (e, written_there) (present_replaced (m k) (w k) v)) (λ (h : q ≡ k → ⊥). ap is_some (written_elsewhere q h)) (cases_eq q k)
 
-read_reason : (o : Option ℕ) → outcome_number (read_answer o) ≡ cond (is_some o) 0 1
+read_reason : (o : Option ℕ) → outcome_number (read_answer o) ≡ (if is_some o then 0 else 1)
 read_reason None = refl
 read_reason (Some u) = refl
 
-write_reason : (o : Option ℕ) (w : Bool) → outcome_number (write_answer o w) ≡ cond (is_some o) (cond w 0 2) 1
+write_reason : (o : Option ℕ) (w : Bool) → outcome_number (write_answer o w) ≡ (if is_some o then (if w then 0 else 2) else 1)
 write_reason None w = refl
 write_reason (Some u) true = refl
 write_reason (Some u) false = refl
@@ -60,13 +61,13 @@ present_after (x ∷ xs) m w q = present_after xs (after_write m w x) w q ∙ wr
 
 -- what is accepted, and stays
 accepts_ok : (o : Option ℕ) (w : Bool) → is_ok (write_answer o w) ≡ true → write_answer o w ≡ Ok tt
-accepts_ok None w h = let z : true ≡ false = sym h in let y : ◌≡◌ {A = ℕ} 0 1 = cc in absurd (omega arith)
+accepts_ok None w h = cc
 accepts_ok (Some u) true h = refl
-accepts_ok (Some u) false h = let z : true ≡ false = sym h in let y : ◌≡◌ {A = ℕ} 0 1 = cc in absurd (omega arith)
+accepts_ok (Some u) false h = cc
 
 refused_keeps : (o : Option ℕ) (w : Bool) (v : ℕ) → is_ok (write_answer o w) ≡ false → replaced v o w ≡ o
 refused_keeps None w v h = refl
-refused_keeps (Some u) true v h = let y : ◌≡◌ {A = ℕ} 0 1 = cc in absurd (omega arith)
+refused_keeps (Some u) true v h = cc
 refused_keeps (Some u) false v h = refl
 
 -- a list that begins with x, taken apart at some write: there, or in what follows
@@ -126,8 +127,8 @@ module _ (m : Values) (w : Writable) (x : Write) (xs : List Write) (q : ℕ) whe
       (cases_eq k q)
 
 nowhere : (us : List Write) (x : Write) (vs : List Write) → [] ≡ us ++ (x ∷ vs) → ⊥
-nowhere [] x vs e = let z : ◌≡◌ {A = ℕ} 0 1 = cc in omega arith
-nowhere (u ∷ us) x vs e = let z : ◌≡◌ {A = ℕ} 0 1 = cc in omega arith
+nowhere [] x vs e = cc
+nowhere (u ∷ us) x vs e = cc
 
 stands_after : (ws : List Write) (m : Values) (w : Writable) (q : ℕ) → Stands m w ws q (after_writes m w ws q)
 stands_after [] m w q = as_at_first (λ us x vs e t. absurd (nowhere us x vs e))
@@ -136,12 +137,16 @@ stands_after (x ∷ xs) m w q = more_stands m w x xs q (stands_after xs (after_w
 pub last_write_stands : (m : Values) (w : Writable) (ws : List Write) (n : Values) → n ≡ after_writes m w ws → LastWriteStands m w ws n
 last_write_stands m w ws n e = subst (LastWriteStands m w ws) (sym e) (record { stands = stands_after ws m w; presence = present_after ws m w })
 
+one_or_none : (b : Bool) → from_bool b ≡ (if b then 1 else 0)
+one_or_none true = refl
+one_or_none false = refl
+
 -- a loop over the list, at one write more
 module _ (m n : Values) (w u : Writable) (ws : List Write) (i : ℕ) (d : Write) (left : i < length ws) (same : u ≡ w) (step : n ≡ after_write m u (get_or ws i d)) where
   pub after_more : after_writes n w (drop (i + 1) ws) ≡ after_writes m w (drop i ws)
   after_more = ap (λ v. after_writes v w (drop (i + 1) ws)) (step ∙ ap (λ v. after_write m v (get_or ws i d)) same) ∙ sym (at_drop_more (after_writes m w) ws i d left)
 
-  pub count_more : (r : ℕ) → r ≡ cond (accepted m u (get_or ws i d)) 1 0 → r + accepted_count n w (drop (i + 1) ws) ≡ accepted_count m w (drop i ws)
-  count_more r e =
-      (λ j. (e ∙ ap (λ v. cond (accepted m v (get_or ws i d)) 1 0) same) j + accepted_count ((step ∙ ap (λ v. after_write m v (get_or ws i d)) same) j) w (drop (i + 1) ws))
+  pub count_more : (b : Bool) → b ≡ accepted m u (get_or ws i d) → from_bool b + accepted_count n w (drop (i + 1) ws) ≡ accepted_count m w (drop i ws)
+  count_more b e =
+      (λ j. one_or_none ((e ∙ ap (λ v. accepted m v (get_or ws i d)) same) j) j + accepted_count ((step ∙ ap (λ v. after_write m v (get_or ws i d)) same) j) w (drop (i + 1) ws))
       ∙ sym (at_drop_more (accepted_count m w) ws i d left)

@@ -1,5 +1,5 @@
 -- Bytes that stand as double-words, the lowest byte first.
-use Rattle.std.specs.Prelude.{ℕ, ◌+◌, ◌-◌, ◌*◌, ◌/◌, ◌%◌, Bool, cond, ◌&&◌, List, length, Some, None, ◌==◌, nat_le, slice_index, slice_set}
+use Rattle.std.specs.Prelude.{ℕ, ◌+◌, ◌-◌, ◌*◌, ◌/◌, ◌%◌, Bool, ◌&&◌, List, length, Some, None, ◌==◌, if◌then◌else◌, nat_le, slice_index, slice_set}
 use Rattle.physical.specs.Stores.{Values}
 use Rattle.physical.specs.Checks.{range_rule}
 
@@ -21,8 +21,8 @@ absent q = None
 
 -- the double-words of bs, the first byte of which has the address start
 abbrev pub laid : ℕ → List ℕ → Values
-laid start bs q = cond (covers start (length bs) q) (Some (dword_at bs (q * 4 - start))) None
+laid start bs q = if covers start (length bs) q then Some (dword_at bs (q * 4 - start)) else None
 
 -- the same where the check passes the start and the length, and nothing where it does not
 abbrev pub laid_checked : ℕ → List ℕ → Values
-laid_checked start bs = cond (range_rule start (length bs) == 0) (laid start bs) absent
+laid_checked start bs = if range_rule start (length bs) == 0 then laid start bs else absent

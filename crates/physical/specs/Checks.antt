@@ -1,5 +1,5 @@
 -- What the checks of lengths, starts and boundaries answer.
-use Rattle.std.specs.Prelude.{ℕ, ◌+◌, ◌-◌, ◌/◌, ◌%◌, Bool, cond, not, ◌&&◌, Ok, Err, Result, ◌==◌, nat_le}
+use Rattle.std.specs.Prelude.{ℕ, ◌+◌, ◌-◌, ◌/◌, ◌%◌, Bool, not, ◌&&◌, Some, None, Ok, Err, Option, Result, ◌==◌, if◌then◌else◌, nat_le}
 use Rattle.physical.specs.declared.checks.AssemblyError.{AssemblyError}
 use Rattle.physical.specs.declared.checks.AssemblyError.TheVariants.{Length, Placement, Boundary}
 
@@ -32,11 +32,15 @@ start_ok s n = is_multiple s && nat_le (s + n) 4294967296
 
 -- 1 for the length, then 2 for the start
 abbrev pub range_rule : ℕ → ℕ → ℕ
-range_rule s n = cond (length_ok n) (cond (start_ok s n) 0 2) 1
+range_rule s n = if length_ok n then (if start_ok s n then 0 else 2) else 1
+
+-- the start of n bytes, where the check passes them
+abbrev pub start_checked : ℕ → ℕ → Option ℕ
+start_checked s n = if range_rule s n == 0 then Some s else None
 
 -- 3 for a split or a shift
 abbrev pub boundary_rule : ℕ → ℕ
-boundary_rule a = cond (is_multiple a) 0 3
+boundary_rule a = if is_multiple a then 0 else 3
 
 -- the double-word at which a split or a shift lies, once the bits below the granule are cleared
 abbrev pub boundary_dword : ℕ → ℕ

@@ -1,5 +1,5 @@
 -- What a memory was lent: the byte slices under it, which no call exchanges for others.
-use Rattle.std.specs.Prelude.{ℕ, cond, List, length, ◌==◌}
+use Rattle.std.specs.Prelude.{ℕ, List, length, ◌==◌, if◌then◌else◌}
 use Rattle.physical.specs.Checks.{range_rule}
 
 pub data Loans : Type 0 where
@@ -14,4 +14,4 @@ pub data Loans : Type 0 where
 
 -- the loan of bytes from an address on: laid out where the check passes, left alone where it does not
 abbrev pub loan_checked : ℕ → ℕ → List ℕ → Loans
-loan_checked start name bs = cond (range_rule start (length bs) == 0) (laid_out name (length bs) start) (left_alone name bs)
+loan_checked start name bs = if range_rule start (length bs) == 0 then laid_out name (length bs) start else left_alone name bs

@@ -1,5 +1,5 @@
 -- What a readable store and a memory hold, double-word by double-word.
-use Rattle.std.specs.Prelude.{ℕ, ◌/◌, ◌%◌, Bool, true, false, cond, Some, None, Ok, Err, Option, Result, ◌==◌}
+use Rattle.std.specs.Prelude.{ℕ, ◌/◌, ◌%◌, Bool, true, false, Some, None, Ok, Err, Option, Result, ◌==◌, if◌then◌else◌}
 use Rattle.physical.specs.declared.MemoryError.{MemoryError}
 use Rattle.physical.specs.declared.MemoryError.TheVariants.{Absent, ReadOnly}
 
@@ -42,4 +42,4 @@ replaced v (Some u) false = Some u
 
 -- what a write of v to the double-word k leaves of all
 abbrev pub written : Values → Writable → ℕ → ℕ → Values
-written m w k v q = cond (q == k) (replaced v (m q) (w q)) (m q)
+written m w k v q = if q == k then replaced v (m q) (w q) else m q

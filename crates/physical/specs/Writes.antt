@@ -1,5 +1,5 @@
 -- Lists of writes: what they leave, and the law of what a read then answers.
-use Rattle.std.specs.Prelude.{◌≡◌, ℕ, ◌+◌, Bool, true, false, cond, List, [], ◌∷◌, ◌++◌, is_some, is_ok, Some, Ok, Err, Option, Result, ◌≢◌}
+use Rattle.std.specs.Prelude.{◌≡◌, ℕ, ◌+◌, Bool, true, false, List, [], ◌∷◌, ◌++◌, is_some, is_ok, Some, Ok, Err, Option, Result, ◌≢◌, if◌then◌else◌}
 use Rattle.physical.specs.Stores.{Values, Writable, dword, read_answer, reason_number, write_answer, written}
 use Rattle.physical.specs.declared.MemoryError.{MemoryError}
 use Rattle.physical.specs.declared.writes.Write.{Write}
@@ -20,7 +20,7 @@ after_writes m w (x ∷ xs) = after_writes (after_write m w x) w xs
 -- how many of them are accepted
 abbrev pub accepted_count : Values → Writable → List Write → ℕ
 accepted_count m w [] = 0
-accepted_count m w (x ∷ xs) = cond (accepted m w x) 1 0 + accepted_count (after_write m w x) w xs
+accepted_count m w (x ∷ xs) = (if accepted m w x then 1 else 0) + accepted_count (after_write m w x) w xs
 
 -- of the writes in xs, made once those in `before` were made, none to the double-word q is accepted
 abbrev pub NoneAccepted : Values → Writable → List Write → List Write → ℕ → Type 0
@@ -54,8 +54,8 @@ outcome_number (Err e) = reason_number e
 
 -- reason 1 exactly where absent; reason 2 exactly for a write where present and read-only
 pub record Reasons : Type 0 where
-  pub of_read : (o : Option ℕ) → outcome_number (read_answer o) ≡ cond (is_some o) 0 1
-  pub of_write : (o : Option ℕ) (w : Bool) → outcome_number (write_answer o w) ≡ cond (is_some o) (cond w 0 2) 1
+  pub of_read : (o : Option ℕ) → outcome_number (read_answer o) ≡ (if is_some o then 0 else 1)
+  pub of_write : (o : Option ℕ) (w : Bool) → outcome_number (write_answer o w) ≡ (if is_some o then (if w then 0 else 2) else 1)
 
 -- one write: refused, it alters nothing; accepted, it replaces its double-word and no other
 pub record OneWrite : Type 0 where

@@ -1,6 +1,8 @@
 // The checks that whoever assembles a memory makes first. They alter nothing.
 ghost use Rattle.std.specs.Prelude.{◌≡◌};
-ghost use Rattle.physical.specs.Checks.{assembly_number, boundary_dword, boundary_rule, check_number, range_rule};
+ghost use Rattle.physical.specs.Checks.{assembly_number, boundary_dword, boundary_rule, check_number, range_rule, start_checked};
+
+use thiserror::Error;
 
 // Lengths, starts, splits and shifts are multiples of this many bytes.
 pub const GRANULE: u32 = 4;
@@ -11,22 +13,22 @@ pub const MAX_LENGTH: usize = 16_777_216;
 const ADDRESS_SPACE: u64 = 1 << 32;
 
 // Why a memory cannot be assembled as asked.
-#[derive(Clone, Copy, PartialEq, Eq, Debug)]
+#[derive(Clone, Copy, PartialEq, Eq, Debug, Error)]
 pub enum AssemblyError {
-    // The length is zero, no multiple of the granule, or above the longest.
+    #[error("the length is zero, no multiple of the granule, or above the longest")]
     Length,
-    // The start is no multiple of the granule, or the bytes would end above 2^32.
+    #[error("the start is no multiple of the granule, or the bytes would end above 2^32")]
     Placement,
-    // A split or a shift is no multiple of the granule.
+    #[error("the split or the shift is no multiple of the granule")]
     Boundary,
 }
 
-impl AssemblyError {
-    // The number of the refusal: 1 length, 2 placement, 3 boundary.
-    pub fn number(&self) -> u8
-        ensures { result ≡ assembly_number self.now }
-    {
-        match *self {
+// The number of the refusal: 1 length, 2 placement, 3 boundary.
+impl From<AssemblyError> for u8 {
+    ghost from_gives = { λ e n. n ≡ assembly_number e };
+
+    fn from(error: AssemblyError) -> u8 {
+        match error {
             AssemblyError::Length => 1,
             AssemblyError::Placement => 2,
             AssemblyError::Boundary => 3,
@@ -41,10 +43,17 @@ pub fn check_range(start: u32, length: usize) -> Result<(), AssemblyError>
     if length == 0 || length % GRANULE as usize != 0 || length > MAX_LENGTH {
         return Err(AssemblyError::Length);
     }
-    if start % GRANULE != 0 || start as u64 + length as u64 > ADDRESS_SPACE {
+    if start % GRANULE != 0 || u64::from(start) + length as u64 > ADDRESS_SPACE {
         return Err(AssemblyError::Placement);
     }
     Ok(())
+}
+
+// The start of bytes, that many, if they can be covered from it on.
+pub(crate) fn checked_start(start: u32, length: usize) -> Option<u32>
+    ensures { result ≡ start_checked start length }
+{
+    check_range(start, length).is_ok().then_some(start)
 }
 
 // Whether a pair can be split, or a store shifted, at the address.

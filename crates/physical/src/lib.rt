@@ -6,30 +6,33 @@ ghost use Rattle.std.specs.Prelude.{◌≡◌};
 ghost use Rattle.physical.specs.Loans.{Loans, none};
 ghost use Rattle.physical.specs.Stores.{Values, Writable, dword, read_answer, reason_number, write_answer, written};
 
+use thiserror::Error;
+
 pub mod checks;
 pub mod dump;
 pub mod pair;
 pub mod ram;
-mod range;
 pub mod rom;
 pub mod shift;
 pub mod writes;
 
 // Why a memory refuses a read or a write.
-#[derive(Clone, Copy, PartialEq, Eq, Debug)]
+#[derive(Clone, Copy, PartialEq, Eq, Debug, Error)]
 pub enum MemoryError {
     // There is no double-word at the address.
+    #[error("absent")]
     Absent,
     // There is one, and it cannot be written.
+    #[error("read-only")]
     ReadOnly,
 }
 
-impl MemoryError {
-    // The number of the reason: 1 absent, 2 read-only.
-    pub fn reason(&self) -> u8
-        ensures { result ≡ reason_number self.now }
-    {
-        match *self {
+// The number of the reason: 1 absent, 2 read-only.
+impl From<MemoryError> for u8 {
+    ghost from_gives = { λ e n. n ≡ reason_number e };
+
+    fn from(error: MemoryError) -> u8 {
+        match error {
             MemoryError::Absent => 1,
             MemoryError::ReadOnly => 2,
         }
@@ -54,6 +57,7 @@ pub trait Memory: ReadableStore {
     // The slices it was lent, for memories over bytes of the caller. An implementation that has none leaves this out.
     ghost loans: { Self → Loans } = { λ _. none };
 
+    // `keeps` and `lends` relate two states, which no type can carry: what calls this over any memory says them again.
     fn write(&mut self, address: u32, value: u32) -> WriteOutcome
         ensures answers { result ≡ write_answer (Self.ReadableStore.values self.old (dword address)) (writable self.old (dword address)) }
         ensures leaves { Self.ReadableStore.values self.new ≡ written (Self.ReadableStore.values self.old) (writable self.old) (dword address) value }

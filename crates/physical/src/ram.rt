@@ -1,17 +1,20 @@
 // RAM: memory over bytes that the caller lends, writable throughout.
-ghost use Rattle.std.specs.Prelude.{◌≡◌};
-ghost use Rattle.physical.specs.Bytes.{laid_checked};
+ghost use Rattle.std.specs.Prelude.{◌≡◌, ◌+◌, ◌≤◌, length};
+ghost use Rattle.physical.specs.Bytes.{laid_checked, stored};
+ghost use Rattle.physical.specs.Checks.{start_checked};
 ghost use Rattle.physical.specs.Loans.{loan_checked};
 ghost use Rattle.physical.specs.Made.{ram_loans, ram_stored, ram_values, ram_writable};
 ghost use Rattle.physical.specs.Stores.{dword, write_answer, written};
 
-use crate::range::Range;
+use crate::checks::checked_start;
+use crate::dump::Dump;
 use crate::{Memory, MemoryError, ReadableStore, WriteOutcome};
 
 #[derive(Drop)]
 pub struct Ram<'a> {
     bytes: &'a mut [u8],
-    range: Range,
+    // The address of the first byte, where the check passes it. Where it does not, the bytes are never touched.
+    start: Option<u32>,
 }
 
 impl<'a> Ram<'a> {
@@ -19,11 +22,22 @@ impl<'a> Ram<'a> {
         ensures values { ram_values result ≡ laid_checked start bytes.old }
         ensures bytes { result.bytes.now ≡ bytes.old }
         ensures named { result.bytes.ghost_name ≡ bytes.entry.ghost_name }
-        ensures placed { result.range.start ≡ start }
+        ensures placed { result.start ≡ start_checked start (length bytes.old) }
         ensures lends { ram_loans result ≡ loan_checked start bytes.entry.ghost_name bytes.old }
     {
-        let range = Range::new(start, bytes.len());
-        Ram { bytes, range }
+        let start = checked_start(start, bytes.len());
+        Ram { bytes, start }
+    }
+
+    // The bytes, to be read.
+    fn dump(&self) -> Dump<'_>
+        ensures start { result.start ≡ self.now.start }
+        ensures bytes { result.bytes.now ≡ self.now.bytes.now }
+    {
+        Dump {
+            bytes: self.bytes,
+            start: self.start,
+        }
     }
 }
 
@@ -31,7 +45,7 @@ impl<'a> ReadableStore for Ram<'a> {
     ghost values = { ram_values };
 
     fn read(&self, address: u32) -> Result<u32, MemoryError> {
-        self.range.read(self.bytes, address)
+        self.dump().read(address)
     }
 }
 
@@ -41,6 +55,7 @@ impl<'a> Memory for Ram<'a> {
     ghost loans = { ram_loans };
 
     // Besides what every memory shows: which bytes the caller has afterwards, in the slice that it lent.
+    #[tactic(auto, using(crate::proofs::Blocks::placed_stored_at))]
     fn write(&mut self, address: u32, value: u32) -> WriteOutcome
         ensures answers { result ≡ write_answer (ram_values self.old (dword address)) (ram_writable self.old (dword address)) }
         ensures leaves { ram_values self.new ≡ written (ram_values self.old) (ram_writable self.old) (dword address) value }
@@ -49,7 +64,17 @@ impl<'a> Memory for Ram<'a> {
         ensures bytes { self.new.bytes.now ≡ ram_stored self.old address value }
         ensures named { self.new.bytes.ghost_name ≡ self.old.bytes.ghost_name }
     {
-        let range = self.range;
-        range.write(self.bytes, address, value)
+        let i = self.dump().find(address).ok_or(MemoryError::Absent)?;
+        store(self.bytes, i, value);
+        Ok(())
     }
+}
+
+// Makes the four bytes from i on those of the value, the lowest first.
+#[tactic(auto, using(crate::proofs::Blocks::put_mid_stored))]
+fn store(bytes: &mut [u8], i: usize, value: u32)
+    requires { i + 4 ≤ length bytes.old }
+    ensures { bytes.new ≡ stored bytes.old i value }
+{
+    bytes[i..i + 4].copy_from_slice(&value.to_le_bytes());
 }

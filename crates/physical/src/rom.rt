@@ -3,21 +3,21 @@ ghost use Rattle.std.specs.Prelude.{◌≡◌};
 ghost use Rattle.physical.specs.Bytes.{laid_checked};
 ghost use Rattle.physical.specs.Made.{rom_values, rom_writable};
 
-use crate::range::Range;
+use crate::dump::Dump;
 use crate::{Memory, MemoryError, ReadableStore, WriteOutcome};
 
 #[derive(Clone, Copy)]
 pub struct Rom<'a> {
-    bytes: &'a [u8],
-    range: Range,
+    dump: Dump<'a>,
 }
 
 impl<'a> Rom<'a> {
     pub fn new(start: u32, bytes: &'a [u8]) -> Rom<'a>
         ensures { rom_values result ≡ laid_checked start bytes.now }
     {
-        let range = Range::new(start, bytes.len());
-        Rom { bytes, range }
+        Rom {
+            dump: Dump::new(start, bytes),
+        }
     }
 }
 
@@ -25,7 +25,7 @@ impl<'a> ReadableStore for Rom<'a> {
     ghost values = { rom_values };
 
     fn read(&self, address: u32) -> Result<u32, MemoryError> {
-        self.range.read(self.bytes, address)
+        self.dump.read(address)
     }
 }
 
@@ -33,9 +33,7 @@ impl<'a> Memory for Rom<'a> {
     ghost writable = { rom_writable };
 
     fn write(&mut self, address: u32, _value: u32) -> WriteOutcome {
-        match self.range.find(self.bytes.len(), address) {
-            Some(_) => Err(MemoryError::ReadOnly),
-            None => Err(MemoryError::Absent),
-        }
+        self.read(address)?;
+        Err(MemoryError::ReadOnly)
     }
 }

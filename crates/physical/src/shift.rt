@@ -1,7 +1,9 @@
 // A store moved up: absent below the distance, and the address 0 of the store at it.
-ghost use Rattle.std.specs.Prelude.{◌≡◌, false, None as Nothing};
+ghost use Rattle.std.specs.Prelude.{◌≡◌, ◌-◌, ◌<◌, ◌≤◌, false, None as Nothing, MatchResult};
 ghost use Rattle.physical.specs.Checks.{boundary_dword};
 ghost use Rattle.physical.specs.Composed.{shifted};
+ghost use Rattle.physical.specs.Stores.{dword};
+ghost use Rattle.physical.specs.declared.MemoryError.TheVariants.{Absent};
 
 use crate::checks::boundary;
 use crate::{Memory, MemoryError, ReadableStore, WriteOutcome, dword_number};
@@ -22,17 +24,23 @@ impl<S> Shift<S> {
             distance: boundary(distance),
         }
     }
+
+    // The address in the inner store of the double-word at the address, which is absent below the distance.
+    fn inner_address(&self, address: u32) -> Result<u32, MemoryError>
+        ensures { MatchResult result (λ a. (self.now.distance ≤ dword address) × (dword a ≡ dword address - self.now.distance)) (λ e. (dword address < self.now.distance) × (e ≡ Absent)) }
+    {
+        match dword_number(address).checked_sub(self.distance) {
+            Some(number) => Ok(number * 4),
+            None => Err(MemoryError::Absent),
+        }
+    }
 }
 
 impl<S: ReadableStore> ReadableStore for Shift<S> {
     ghost values = { λ s. shifted s.distance Nothing (S.ReadableStore.values s.inner) };
 
     fn read(&self, address: u32) -> Result<u32, MemoryError> {
-        let number = dword_number(address);
-        if number < self.distance {
-            return Err(MemoryError::Absent);
-        }
-        self.inner.read((number - self.distance) * 4)
+        self.inner.read(self.inner_address(address)?)
     }
 }
 
@@ -42,10 +50,7 @@ impl<S: Memory> Memory for Shift<S> {
     ghost loans = { λ s. S.Memory.loans s.inner };
 
     fn write(&mut self, address: u32, value: u32) -> WriteOutcome {
-        let number = dword_number(address);
-        if number < self.distance {
-            return Err(MemoryError::Absent);
-        }
-        self.inner.write((number - self.distance) * 4, value)
+        let inner = self.inner_address(address)?;
+        self.inner.write(inner, value)
     }
 }

@@ -1,5 +1,5 @@
 // Lists of writes to any memory.
-ghost use Rattle.std.specs.Prelude.{◌≡◌, if◌then◌else◌};
+ghost use Rattle.std.specs.Prelude.{◌≡◌};
 ghost use Rattle.physical.specs.Writes.{LastWriteStands, OneWrite, Reasons, accepted, accepted_count, after_write, after_writes};
 
 use crate::Memory;
@@ -11,17 +11,14 @@ pub struct Write {
     pub value: u32,
 }
 
-// Makes one write, and answers how many were accepted: one, or none.
-fn write_one<M: Memory>(memory: &mut M, write: Write) -> usize
-    ensures count { result ≡ (if accepted (M.ReadableStore.values memory.old) (M.Memory.writable memory.old) write then 1 else 0) }
-    ensures leaves { M.ReadableStore.values memory.new ≡ after_write (M.ReadableStore.values memory.old) (M.Memory.writable memory.old) write }
+// Makes one write, and answers whether it was accepted.
+fn write_one<M: Memory>(memory: &mut M, write: &Write) -> bool
+    ensures accepted { result ≡ accepted (M.ReadableStore.values memory.old) (M.Memory.writable memory.old) write.now }
+    ensures leaves { M.ReadableStore.values memory.new ≡ after_write (M.ReadableStore.values memory.old) (M.Memory.writable memory.old) write.now }
     ensures keeps { M.Memory.writable memory.new ≡ M.Memory.writable memory.old }
     ensures lends { M.Memory.loans memory.new ≡ M.Memory.loans memory.old }
 {
-    match memory.write(write.address, write.value) {
-        Ok(()) => 1,
-        Err(_) => 0,
-    }
+    memory.write(write.address, write.value).is_ok()
 }
 
 // Makes each write of the list in turn, past those that are refused, and answers how many were accepted.
@@ -36,7 +33,7 @@ pub fn write_all<M: Memory>(memory: &mut M, writes: &[Write]) -> usize
 {
     let mut count = 0;
     for write in writes {
-        count += write_one(memory, *write);
+        count += usize::from(write_one(memory, write));
     }
     count
 }

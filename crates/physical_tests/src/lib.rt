@@ -56,11 +56,11 @@ mod tests {
         assert_eq!(rt; check_boundary(4), Ok(()));
         assert_eq!(rt; check_boundary(4096), Ok(()));
         assert_eq!(rt; check_boundary(0xffff_ffff), Err(AssemblyError::Boundary));
-        assert_eq!(rt; AssemblyError::Length.number(), 1);
-        assert_eq!(rt; AssemblyError::Placement.number(), 2);
-        assert_eq!(rt; AssemblyError::Boundary.number(), 3);
-        assert_eq!(rt; ABSENT.reason(), 1);
-        assert_eq!(rt; READ_ONLY.reason(), 2);
+        assert_eq!(rt; u8::from(AssemblyError::Length), 1);
+        assert_eq!(rt; u8::from(AssemblyError::Placement), 2);
+        assert_eq!(rt; u8::from(AssemblyError::Boundary), 3);
+        assert_eq!(rt; u8::from(ABSENT), 1);
+        assert_eq!(rt; u8::from(READ_ONLY), 2);
     }
 
     // The first and the last bytes of a RAM, what lies beside it, and the bytes that the owner has afterwards.

@@ -6,21 +6,21 @@
 ghost use Rattle.std.specs.Prelude.{◌≡◌, ◌/◌, true, false, IfOk, Some as Present};
 ghost use Rattle.entry.specs.Fields.{encoded};
 
-use anyhow::anyhow;
+use anyhow::{Context, anyhow};
 use entry::EntryFields;
 use entry::geometry::{
     PAGE_SIZE, first_entry_address, first_index, offset, page_number, second_entry_address,
     second_index,
 };
 use entry::operations::frame;
-use lookup::{Found, Miss, look_up};
+use lookup::{Found, look_up};
 use physical::checks::{AssemblyError, check_boundary, check_range};
 use physical::pair::Pair;
 use physical::ram::Ram;
 use physical::rom::Rom;
 use physical::shift::Shift;
 use physical::writes::{Write, write_all};
-use physical::{Memory, MemoryError, ReadableStore};
+use physical::{Memory, ReadableStore};
 
 // The RAM below 32,768, nothing up to 65,536, and the ROM from there on.
 type Machine<'a> = Pair<Ram<'a>, Shift<Rom<'a>>>;
@@ -51,7 +51,7 @@ fn show_check(
     match checked {
         Ok(()) => println!(rt; "   check of {what}: passes")?,
         Err(e) => {
-            let number = e.number();
+            let number = u8::from(e);
             println!(rt; "   check of {what}: refused with {number}")?;
         }
     }
@@ -101,8 +101,7 @@ fn entry_for(address: u32, protection: u8) -> anyhow::Result<u32>
 }
 
 fn show_planned(rt: &HostRuntime, what: &str, write: &Write) -> anyhow::Result<()> {
-    let address = write.address;
-    let value = write.value;
+    let Write { address, value } = *write;
     println!(rt; "   {what}: {value:#010x} at {address:#010x}")?;
     Ok(())
 }
@@ -135,9 +134,9 @@ fn fill(rt: &HostRuntime, memory: &mut Machine<'_>) -> anyhow::Result<()> {
 
 fn fill_page(memory: &mut Machine<'_>) -> anyhow::Result<()> {
     for i in 0..1024u32 {
-        if memory.write(DATA_FRAME + 4 * i, FIRST_LOW + i).is_err() {
-            return Err(anyhow!("the page cannot be written"));
-        }
+        memory
+            .write(DATA_FRAME + 4 * i, FIRST_LOW + i)
+            .context("the page cannot be written")?;
     }
     Ok(())
 }
@@ -193,48 +192,30 @@ fn show_found(rt: &HostRuntime, found: &Found) -> anyhow::Result<()> {
 
 fn find(rt: &HostRuntime, memory: &Machine<'_>) -> anyhow::Result<u32> {
     println!(rt; "3. Look the virtual address {VIRTUAL:#010x} up, by reading both entries.")?;
-    match look_up(memory, FIRST_TABLE, VIRTUAL) {
-        Ok(found) => {
-            show_found(rt, &found)?;
-            Ok(found.physical)
-        }
-        Err(Miss::Absent(_)) => Err(anyhow!("an entry is absent")),
-        Err(Miss::Invalid(_)) => Err(anyhow!("an entry is invalid")),
-    }
-}
-
-fn why(e: MemoryError) -> &'static str {
-    match e {
-        MemoryError::Absent => "absent",
-        MemoryError::ReadOnly => "read-only",
-    }
+    let found = look_up(memory, FIRST_TABLE, VIRTUAL)?;
+    show_found(rt, &found)?;
+    Ok(found.physical)
 }
 
 fn show_read(rt: &HostRuntime, memory: &Machine<'_>, address: u32) -> anyhow::Result<()> {
     match memory.read(address) {
         Ok(value) => println!(rt; "   read at {address:#010x}: {value:#010x}, in decimal {value}")?,
         Err(e) => {
-            let reason = e.reason();
-            let text = why(e);
-            println!(rt; "   read at {address:#010x}: refused, reason {reason} ({text})")?;
+            let reason = u8::from(e);
+            println!(rt; "   read at {address:#010x}: refused, reason {reason} ({e})")?;
         }
     }
     Ok(())
 }
 
-fn show_write(
-    rt: &HostRuntime,
-    memory: &mut Machine<'_>,
-    address: u32,
-    value: u32,
-) -> anyhow::Result<()> {
+fn show_write(rt: &HostRuntime, memory: &mut Machine<'_>, write: &Write) -> anyhow::Result<()> {
+    let Write { address, value } = *write;
     match memory.write(address, value) {
         Ok(()) => println!(rt; "   write of {value:#010x} at {address:#010x}: done")?,
         Err(e) => {
-            let reason = e.reason();
-            let text = why(e);
+            let reason = u8::from(e);
             println!(rt;
-                "   write of {value:#010x} at {address:#010x}: refused, reason {reason} ({text})"
+                "   write of {value:#010x} at {address:#010x}: refused, reason {reason} ({e})"
             )?;
         }
     }
@@ -255,7 +236,11 @@ fn tour(rt: &HostRuntime) -> anyhow::Result<()> {
     println!(rt; "5. A refusal: between the RAM and the ROM there is nothing to read.")?;
     show_read(rt, &memory, RAM_LENGTH)?;
     println!(rt; "6. Another: the ROM cannot be written, and stays as it is.")?;
-    show_write(rt, &mut memory, ROM_PLACE, FIRST_LOW)?;
+    let write = Write {
+        address: ROM_PLACE,
+        value: FIRST_LOW,
+    };
+    show_write(rt, &mut memory, &write)?;
     show_read(rt, &memory, ROM_PLACE)
 }
 

@@ -1,35 +1,26 @@
-use Rattle.std.proofs.Common.{◌≤◌, sym, ◌∙◌, arith}
+use Rattle.std.proofs.Common.{sym, ◌∙◌, arith}
 use Rattle.std.proofs.lemmas.List.{at_drop_all}
-use Rattle.std.proofs.lemmas.Bool.Decides.{nat_tests}
 use Rattle.physical.specs.Writes.{accepted_count, after_writes}
 use Rattle.physical.proofs.Written.{after_more, count_more, last_write_stands, one_write, reasons}
-use Rattle.physical.proofs.writes.write_all.Given as given
 use Rattle.physical.proofs.writes.write_all.Goals as goal
-
--- a write that is accepted counts as one
-at_most_one : (g : given.Over) (c : goal.After-write_one-count g) → c.write_one-count.result ≤ 1
-at_most_one g c = let h = c.write_one-count.ensures.count in grind (arith, nat_tests, h)
-
-pub overflow_add-count : goal.overflow_add-count
-overflow_add-count g c = omega (arith, at_most_one g c, c.loop-write.invariant.4)
 
 pub loop-write-preserved : goal.loop-write-preserved
 loop-write-preserved g c =
     let values = g.M.ReadableStore.values in
     let writable = g.M.Memory.writable in
     let old = c.loop-write.memory in
-    let new = c.write_one-count.new.memory in
-    let did = c.write_one-count.ensures in
+    let new = c.write_one.new.memory in
+    let did = c.write_one.ensures in
     let inv = c.loop-write.invariant in
     let ws = c.args.writes.now in
     let i = c.loop-write.write-index in
     let first = writable c.args.memory.now in
-    let count = count_more (values old) (values new) first (writable old) ws i _ c.loop-write-test.true inv.2 did.leaves c.write_one-count.result did.count in (
+    let count = count_more (values old) (values new) first (writable old) ws i _ c.loop-write-test.true inv.2 did.leaves c.write_one.result did.accepted in (
       after_more (values old) (values new) first (writable old) ws i _ c.loop-write-test.true inv.2 did.leaves ∙ inv.0,
       omega (arith, count, inv.1),
       did.keeps ∙ inv.2,
       did.lends ∙ inv.3,
-      omega (arith, at_most_one g c, inv.4),
+      grind (arith, inv.4),
     )
 
 pub returns : goal.returns
