@@ -2,21 +2,6 @@
 ghost use Rattle.std.specs.Prelude.{◌≡◌, ◌<◌, Decides};
 ghost use Rattle.entry.specs.Bus.{Agrees, breakpoint_match, chosen_byte, merge_answer};
 
-use crate::bits::{byte_at, flag_at};
-
-// Byte i of the new double-word if the mask chooses it, else of the old one.
-fn choose(old: u32, new: u32, mask: u8, i: u32) -> u32
-    requires { i < 4 }
-    ensures value { result ≡ chosen_byte old new mask i }
-    ensures bound { result < 256 }
-{
-    if flag_at(u32::from(mask), i) {
-        byte_at(new, i)
-    } else {
-        byte_at(old, i)
-    }
-}
-
 // The old double-word with those bytes of the new one that the mask chooses: bit 0 the lowest byte, up to bit 3.
 // A mask above 15 is refused.
 pub fn merge(old: u32, new: u32, mask: u8) -> Option<u32>
@@ -25,12 +10,10 @@ pub fn merge(old: u32, new: u32, mask: u8) -> Option<u32>
     if mask > 15 {
         return None;
     }
-    Some(
-        choose(old, new, mask, 0)
-            + choose(old, new, mask, 1) * 0x100
-            + choose(old, new, mask, 2) * 0x1_0000
-            + choose(old, new, mask, 3) * 0x100_0000,
-    )
+    let old = old.to_le_bytes();
+    let new = new.to_le_bytes();
+    let byte = |i: usize| if mask >> i & 1 == 1 { new[i] } else { old[i] };
+    Some(u32::from_le_bytes([byte(0), byte(1), byte(2), byte(3)]))
 }
 
 // Whether two addresses are equal under the mask.

@@ -9,7 +9,7 @@ ghost use Rattle.entry.specs.Figures.{Figures};
 ghost use Rattle.entry.specs.Layout.{DistinctFrames, Lawful};
 ghost use Rattle.entry.specs.NS32382.{AddressBits, ns32382};
 
-use bits::{bit_value, field_at};
+use bits::{FRAME, INHIBIT, MODIFIED, PROTECTION, REFERENCED, UNUSED, USER, VALID};
 use operations::{frame, inhibit, modified, protection, referenced, valid};
 
 pub mod access;
@@ -30,7 +30,7 @@ pub enum TableLevel {
 pub struct EntryFields {
     // V: the entry can be used.
     pub valid: bool,
-    // PL, two bits: up to which level accesses pass.
+    // PL, two bits: up to which level accesses pass. A number, as levels are compared and the smaller is taken.
     pub protection: u8,
     // NU, three bits without a use.
     pub unused: u8,
@@ -80,11 +80,11 @@ fn take_apart(entry: u32) -> EntryFields
     EntryFields {
         valid: valid(entry),
         protection: protection(entry),
-        unused: field_at(entry, 3, 3) as u8,
+        unused: UNUSED.read_from(entry) as u8,
         inhibit: inhibit(TableLevel::Second, entry),
         referenced: referenced(entry),
         modified: modified(TableLevel::Second, entry),
-        user: field_at(entry, 9, 3) as u8,
+        user: USER.read_from(entry) as u8,
         frame: frame(entry),
     }
 }
@@ -92,17 +92,14 @@ fn take_apart(entry: u32) -> EntryFields
 fn put_together(fields: &EntryFields) -> Option<u32>
     ensures { result ≡ encoded fields.now }
 {
-    if fields.protection > 3 || fields.unused > 7 || fields.user > 7 || fields.frame > 0xf_ffff {
-        return None;
-    }
     Some(
-        bit_value(fields.valid)
-            + u32::from(fields.protection) * 2
-            + u32::from(fields.unused) * 8
-            + bit_value(fields.inhibit) * 64
-            + bit_value(fields.referenced) * 128
-            + bit_value(fields.modified) * 256
-            + u32::from(fields.user) * 512
-            + fields.frame * 4096,
+        VALID.place(fields.valid)
+            + PROTECTION.place(u32::from(fields.protection))?
+            + UNUSED.place(u32::from(fields.unused))?
+            + INHIBIT.place(fields.inhibit)
+            + REFERENCED.place(fields.referenced)
+            + MODIFIED.place(fields.modified)
+            + USER.place(u32::from(fields.user))?
+            + FRAME.place(fields.frame)?,
     )
 }
