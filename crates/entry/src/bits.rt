@@ -1,6 +1,8 @@
 // Bits and fields of a double-word, and where those of a table entry lie.
-ghost use Rattle.std.specs.Prelude.{◌≡◌, ◌+◌, ◌*◌, ◌^◌, ◌<◌, ◌≤◌, Some, None, bit_or, if◌then◌else◌, nat_lt};
+ghost use Rattle.std.specs.Prelude.{◌≡◌, ◌+◌, ◌*◌, ◌^◌, ◌<◌, ◌≤◌, OkIff, bit_or};
 ghost use Rattle.entry.specs.Bits.{Marks, as_bit, field, flag};
+
+use crate::FieldTooWide;
 
 // The bit of that number; bit 0 is the lowest.
 #[derive(Clone, Copy)]
@@ -66,14 +68,14 @@ impl Field {
         word >> self.low & ((1 << self.width) - 1)
     }
 
-    // A value at the field's place, or nothing where it is too wide.
-    pub(crate) fn place(self, value: u32) -> Option<u32>
-        ensures { result ≡ (if nat_lt value (2 ^ self.width) then Some (value * 2 ^ self.low) else None) }
+    // A value at the field's place, or the error where it is too wide.
+    pub(crate) fn place(self, value: u32) -> Result<u32, FieldTooWide>
+        ensures { OkIff result (value < 2 ^ self.width) (value * 2 ^ self.low) }
     {
         if value < 1 << self.width {
-            Some(value << self.low)
+            Ok(value << self.low)
         } else {
-            None
+            Err(FieldTooWide)
         }
     }
 }
