@@ -1,5 +1,5 @@
 -- A page table entry as 32 bits, and as its eight fields.
-use Rattle.std.specs.Prelude.{◌≡◌, ℕ, ◌+◌, ◌*◌, ◌^◌, ◌<◌, Bool, true, cond, ◌&&◌, Some, None, Option, nat_lt}
+use Rattle.std.specs.Prelude.{◌≡◌, ℕ, ◌+◌, ◌*◌, ◌^◌, ◌<◌, Bool, true, if◌then◌else◌, ◌&&◌, Some, None, Option, nat_lt}
 use Rattle.entry.specs.Bits.{as_bit, field, flag}
 use Rattle.entry.specs.declared.EntryFields.{EntryFields}
 use Rattle.entry.specs.declared.FieldTooWide.{FieldTooWide}
@@ -33,7 +33,7 @@ too_wide = record {}
 
 -- putting together: refused where a field is too wide
 abbrev pub encoded : EntryFields → Option ℕ
-encoded f = cond (fit f) (Some (entry_of f)) None
+encoded f = if fit f then Some (entry_of f) else None
 
 -- taking apart and putting together lose nothing, either way round
 pub record RoundTrips : Type 0 where

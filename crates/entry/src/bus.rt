@@ -1,5 +1,5 @@
 // What a masked write leaves of a double-word, and whether an address meets a breakpoint.
-ghost use Rattle.std.specs.Prelude.{◌≡◌, ◌<◌, Decides};
+ghost use Rattle.std.specs.Prelude.{◌≡◌, ◌↔◌, IsTrue};
 ghost use Rattle.entry.specs.Bus.{Agrees, breakpoint_match, chosen_byte, merge_answer};
 
 // The old double-word with those bytes of the new one that the mask chooses: bit 0 the lowest byte, up to bit 3.
@@ -26,7 +26,7 @@ fn equal_masked(address: u32, other: u32, mask: u32) -> bool
 // Whether the address equals the breakpoint in every bit that the mask sets.
 pub fn breakpoint_matches(address: u32, breakpoint: u32, mask: u32) -> bool
     ensures value { result ≡ breakpoint_match address breakpoint mask }
-    ensures bits { Decides result (Agrees address breakpoint mask) }
+    ensures bits { IsTrue result ↔ Agrees address breakpoint mask }
 {
     equal_masked(address, breakpoint, mask)
 }
