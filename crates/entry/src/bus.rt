@@ -1,6 +1,6 @@
 // What a masked write leaves of a double-word, and whether an address meets a breakpoint.
 ghost use Rattle.std.specs.Prelude.{◌≡◌, ◌↔◌, IsTrue};
-ghost use Rattle.entry.specs.Bus.{Agrees, breakpoint_match, chosen_byte, merge_answer};
+ghost use Rattle.entry.specs.Bus.{Agrees, breakpoint_match, merge_answer};
 
 // The old double-word with those bytes of the new one that the mask chooses: bit 0 the lowest byte, up to bit 3.
 // A mask above 15 is refused.
@@ -12,6 +12,7 @@ pub fn merge(old: u32, new: u32, mask: u8) -> Option<u32>
     }
     let old = old.to_le_bytes();
     let new = new.to_le_bytes();
+    // byte i of the new double-word if the mask chooses it, else of the old one
     let byte = |i: usize| if mask >> i & 1 == 1 { new[i] } else { old[i] };
     Some(u32::from_le_bytes([byte(0), byte(1), byte(2), byte(3)]))
 }

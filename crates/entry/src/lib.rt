@@ -102,6 +102,7 @@ pub fn layout_stands()
     ensures figures { Figures }
 {}
 
+// The sum alone: that it gives the fields back is proved in `try_from`, of the sum as one number.
 fn put_together(fields: EntryFields) -> Result<u32, FieldTooWide>
     ensures { result ≡ ok_or (encoded fields) too_wide }
 {

@@ -13,7 +13,6 @@ pub fn valid(entry: u32) -> bool
     VALID.is_set_in(entry)
 }
 
-// A number, 0 to 3, and no enum: levels are compared, and the smaller of two is taken.
 pub fn protection(entry: u32) -> u8
     ensures { result ≡ ns32382.protection entry }
 {
