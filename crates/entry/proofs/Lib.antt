@@ -1,4 +1,3 @@
 pub mod Bitwise
 pub mod Marking
 pub mod Laws
-pub mod Codec

@@ -1,10 +1,10 @@
 -- Bytes chosen by a mask, and the match of a breakpoint.
-use Rattle.std.specs.Prelude.{◌≡◌, ℕ, ◌+◌, ◌*◌, ◌^◌, Bool, cond, Some, None, Option, ◌==◌, bit_and, nat_le}
+use Rattle.std.specs.Prelude.{◌≡◌, ℕ, ◌+◌, ◌*◌, ◌^◌, Bool, if◌then◌else◌, Some, None, Option, ◌==◌, bit_and, nat_le}
 use Rattle.entry.specs.Bits.{bit, byte, flag}
 
 -- byte i of the new value where bit i of the mask is set, else byte i of the old one
 abbrev pub chosen_byte : ℕ → ℕ → ℕ → ℕ → ℕ
-chosen_byte old new mask i = cond (flag i mask) (byte i new) (byte i old)
+chosen_byte old new mask i = if flag i mask then byte i new else byte i old
 
 abbrev pub merged : ℕ → ℕ → ℕ → ℕ
 merged old new mask =
@@ -12,7 +12,7 @@ merged old new mask =
 
 -- a mask has four bits; a wider one is refused
 abbrev pub merge_answer : ℕ → ℕ → ℕ → Option ℕ
-merge_answer old new mask = cond (nat_le mask 15) (Some (merged old new mask)) None
+merge_answer old new mask = if nat_le mask 15 then Some (merged old new mask) else None
 
 -- equal in every bit that the mask sets
 abbrev pub Agrees : ℕ → ℕ → ℕ → Type 0

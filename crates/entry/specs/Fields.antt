@@ -1,7 +1,8 @@
 -- A page table entry as 32 bits, and as its eight fields.
-use Rattle.std.specs.Prelude.{◌≡◌, ℕ, ◌+◌, ◌*◌, ◌^◌, ◌<◌, Bool, true, cond, ◌&&◌, Some, None, Option, nat_lt}
+use Rattle.std.specs.Prelude.{◌≡◌, ℕ, ◌+◌, ◌*◌, ◌^◌, ◌<◌, Bool, true, if◌then◌else◌, ◌&&◌, Some, None, Option, nat_lt}
 use Rattle.entry.specs.Bits.{as_bit, field, flag}
 use Rattle.entry.specs.declared.EntryFields.{EntryFields}
+use Rattle.entry.specs.declared.FieldTooWide.{FieldTooWide}
 
 -- V bit 0, PL bits 1-2, NU bits 3-5, CI bit 6, R bit 7, M bit 8, USR bits 9-11, PFN bits 12-31
 abbrev pub fields_of : ℕ → EntryFields
@@ -26,9 +27,13 @@ entry_of f =
     as_bit f.valid * 2 ^ 0 + f.protection * 2 ^ 1 + f.unused * 2 ^ 3 + as_bit f.inhibit * 2 ^ 6
     + as_bit f.referenced * 2 ^ 7 + as_bit f.modified * 2 ^ 8 + f.user * 2 ^ 9 + f.frame * 2 ^ 12
 
+-- the one value of the error
+abbrev pub too_wide : FieldTooWide
+too_wide = record {}
+
 -- putting together: refused where a field is too wide
 abbrev pub encoded : EntryFields → Option ℕ
-encoded f = cond (fit f) (Some (entry_of f)) None
+encoded f = if fit f then Some (entry_of f) else None
 
 -- taking apart and putting together lose nothing, either way round
 pub record RoundTrips : Type 0 where

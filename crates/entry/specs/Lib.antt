@@ -1,4 +1,5 @@
 pub mod Bits
+pub mod TableLevel
 pub mod Layout
 pub mod Fields
 pub mod NS32382

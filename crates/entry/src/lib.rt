@@ -3,14 +3,17 @@
 
 #![tactic(auto)]
 
-ghost use Rattle.std.specs.Prelude.{◌≡◌, IfSome, Some as Present};
-ghost use Rattle.entry.specs.Fields.{RoundTrips, encoded, fields_of};
+ghost use Rattle.std.specs.Prelude.{◌≡◌, IfOk, Some as Present};
+ghost use Rattle.std.specs.Option.{ok_or};
+ghost use Rattle.entry.specs.Fields.{RoundTrips, encoded, fields_of, too_wide};
 ghost use Rattle.entry.specs.Figures.{Figures};
 ghost use Rattle.entry.specs.Layout.{DistinctFrames, Lawful};
 ghost use Rattle.entry.specs.NS32382.{AddressBits, ns32382};
+ghost use Rattle.entry.specs.TableLevel.{level_number};
 
-use bits::{bit_value, field_at};
+use bits::{FRAME, INHIBIT, MODIFIED, PROTECTION, REFERENCED, UNUSED, USER, VALID};
 use operations::{frame, inhibit, modified, protection, referenced, valid};
+use thiserror::Error;
 
 pub mod access;
 mod bits;
@@ -21,8 +24,17 @@ pub mod operations;
 // Which of the two tables an entry stands in.
 #[derive(Clone, Copy, PartialEq, Eq, Debug)]
 pub enum TableLevel {
-    First,
-    Second,
+    First = 1,
+    Second = 2,
+}
+
+// The level as a number.
+impl From<TableLevel> for u8 {
+    ghost from_gives = { λ level n. n ≡ level_number level };
+
+    fn from(level: TableLevel) -> u8 {
+        level as u8
+    }
 }
 
 // The fields of an entry, with the maker's names in the comments.
@@ -30,7 +42,7 @@ pub enum TableLevel {
 pub struct EntryFields {
     // V: the entry can be used.
     pub valid: bool,
-    // PL, two bits: up to which level accesses pass.
+    // PL, two bits: up to which level accesses pass. A number, as levels are compared and the smaller is taken.
     pub protection: u8,
     // NU, three bits without a use.
     pub unused: u8,
@@ -46,21 +58,37 @@ pub struct EntryFields {
     pub frame: u32,
 }
 
-impl EntryFields {
-    // Takes an entry apart.
-    pub fn decode(entry: u32) -> EntryFields
-        ensures value { result ≡ fields_of entry }
-        ensures back { encoded result ≡ Present entry }
-    {
-        take_apart(entry)
-    }
+// A field that is wider than its place in an entry.
+#[derive(Clone, Copy, PartialEq, Eq, Hash, Debug, Error)]
+#[error("a field is too wide")]
+pub struct FieldTooWide;
 
-    // Puts an entry together, or refuses where a field is too wide.
-    pub fn encode(&self) -> Option<u32>
-        ensures value { result ≡ encoded self.now }
-        ensures back { IfSome result (λ w. fields_of w ≡ self.now) }
-    {
-        put_together(self)
+// Takes an entry apart.
+impl From<u32> for EntryFields {
+    ghost from_gives = { λ entry f. (f ≡ fields_of entry) × (encoded f ≡ Present entry) };
+
+    fn from(entry: u32) -> EntryFields {
+        EntryFields {
+            valid: valid(entry),
+            protection: protection(entry),
+            unused: UNUSED.read_from(entry) as u8,
+            inhibit: inhibit(TableLevel::Second, entry),
+            referenced: referenced(entry),
+            modified: modified(TableLevel::Second, entry),
+            user: USER.read_from(entry) as u8,
+            frame: frame(entry),
+        }
+    }
+}
+
+// Puts an entry together, or refuses where a field is too wide.
+impl TryFrom<EntryFields> for u32 {
+    type Error = FieldTooWide;
+
+    ghost try_from_gives = { λ f r. (r ≡ ok_or (encoded f) too_wide) × IfOk r (λ w. fields_of w ≡ f) };
+
+    fn try_from(fields: EntryFields) -> Result<u32, FieldTooWide> {
+        put_together(fields)
     }
 }
 
@@ -74,35 +102,18 @@ pub fn layout_stands()
     ensures figures { Figures }
 {}
 
-fn take_apart(entry: u32) -> EntryFields
-    ensures { result ≡ fields_of entry }
+// The sum alone: that it gives the fields back is proved in `try_from`, of the sum as one number.
+fn put_together(fields: EntryFields) -> Result<u32, FieldTooWide>
+    ensures { result ≡ ok_or (encoded fields) too_wide }
 {
-    EntryFields {
-        valid: valid(entry),
-        protection: protection(entry),
-        unused: field_at(entry, 3, 3) as u8,
-        inhibit: inhibit(TableLevel::Second, entry),
-        referenced: referenced(entry),
-        modified: modified(TableLevel::Second, entry),
-        user: field_at(entry, 9, 3) as u8,
-        frame: frame(entry),
-    }
-}
-
-fn put_together(fields: &EntryFields) -> Option<u32>
-    ensures { result ≡ encoded fields.now }
-{
-    if fields.protection > 3 || fields.unused > 7 || fields.user > 7 || fields.frame > 0xf_ffff {
-        return None;
-    }
-    Some(
-        bit_value(fields.valid)
-            + u32::from(fields.protection) * 2
-            + u32::from(fields.unused) * 8
-            + bit_value(fields.inhibit) * 64
-            + bit_value(fields.referenced) * 128
-            + bit_value(fields.modified) * 256
-            + u32::from(fields.user) * 512
-            + fields.frame * 4096,
+    Ok(
+        VALID.place(fields.valid)
+            + PROTECTION.place(u32::from(fields.protection))?
+            + UNUSED.place(u32::from(fields.unused))?
+            + INHIBIT.place(fields.inhibit)
+            + REFERENCED.place(fields.referenced)
+            + MODIFIED.place(fields.modified)
+            + USER.place(u32::from(fields.user))?
+            + FRAME.place(fields.frame)?,
     )
 }

@@ -13,7 +13,8 @@ mod tests {
     use entry::operations::{
         frame, inhibit, mark_modified, mark_referenced, modified, protection, referenced, valid,
     };
-    use entry::{EntryFields, TableLevel};
+    use entry::{EntryFields, FieldTooWide, TableLevel};
+    use std::test::Fail;
 
     // Entries, and their fields from bit 0 up.
     #[test]
@@ -45,8 +46,8 @@ mod tests {
                 user,
                 frame,
             };
-            assert_eq!(rt; EntryFields::decode(entry), fields);
-            assert_eq!(rt; fields.encode(), Some(entry));
+            assert_eq!(rt; EntryFields::from(entry), fields);
+            assert_eq!(rt; u32::try_from(fields), Ok(entry));
         }
     }
 
@@ -68,8 +69,8 @@ mod tests {
                 frame: 1 << k,
                 ..NONE
             };
-            assert_eq!(rt; EntryFields::decode(0x1000 << k), fields);
-            assert_eq!(rt; fields.encode(), Some(0x1000 << k));
+            assert_eq!(rt; EntryFields::from(0x1000 << k), fields);
+            assert_eq!(rt; u32::try_from(fields), Ok(0x1000 << k));
         }
     }
 
@@ -85,18 +86,28 @@ mod tests {
             (0, 0, 0, 0x100000),
             (0, 0, 0, 0xffffffff),
         ] {
-            assert_eq!(rt;
-                EntryFields {
-                    protection,
-                    unused,
-                    user,
-                    frame,
-                    ..NONE
-                }
-                .encode(),
-                None
-            );
+            let fields = EntryFields {
+                protection,
+                unused,
+                user,
+                frame,
+                ..NONE
+            };
+            assert_eq!(rt; u32::try_from(fields), Err(FieldTooWide));
         }
+    }
+
+    #[test]
+    fn the_error_says_what_is_wrong(rt: HostRuntime) -> Result<(), Fail> {
+        let text = FieldTooWide.to_string(rt.alloc())?;
+        assert_eq!(rt; text.as_str(), "a field is too wide");
+        Ok(())
+    }
+
+    #[test]
+    fn table_levels(rt: HostRuntime) {
+        assert_eq!(rt; u8::from(TableLevel::First), 1);
+        assert_eq!(rt; u8::from(TableLevel::Second), 2);
     }
 
     #[test]
