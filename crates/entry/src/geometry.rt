@@ -1,5 +1,5 @@
 // The parts of a virtual address, and the addresses that a walk forms.
-ghost use Rattle.std.specs.Prelude.{◌≡◌};
+ghost use Rattle.std.specs.Prelude.{◌≡◌, ◌*◌, ◌%◌};
 ghost use Rattle.entry.specs.NS32382.{ns32382};
 
 // How many bytes a page, a frame and a table have.
@@ -57,12 +57,19 @@ pub fn first_entry_address(base: u32, page: u32) -> u32
 pub fn second_entry_address(frame: u32, page: u32) -> u32
     ensures { result ≡ ns32382.second_entry frame page }
 {
-    frame % FRAME_COUNT * PAGE_SIZE + 4 * second_index(page)
+    frame_address(frame) + 4 * second_index(page)
 }
 
 // The byte at an offset of the frame.
 pub fn physical_address(frame: u32, offset: u32) -> u32
     ensures { result ≡ ns32382.physical frame offset }
 {
-    frame % FRAME_COUNT * PAGE_SIZE + offset % PAGE_SIZE
+    frame_address(frame) + offset % PAGE_SIZE
+}
+
+// Where a frame begins.
+fn frame_address(frame: u32) -> u32
+    ensures { result ≡ frame % 1048576 * 4096 }
+{
+    frame % FRAME_COUNT * PAGE_SIZE
 }

@@ -38,7 +38,7 @@ impl From<TableLevel> for u8 {
 }
 
 // The fields of an entry, with the maker's names in the comments.
-#[derive(Clone, Copy, PartialEq, Eq, Debug)]
+#[derive(Clone, Copy, PartialEq, Eq, Debug, Default)]
 pub struct EntryFields {
     // V: the entry can be used.
     pub valid: bool,

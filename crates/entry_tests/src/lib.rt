@@ -51,23 +51,12 @@ mod tests {
         }
     }
 
-    const NONE: EntryFields = EntryFields {
-        valid: false,
-        protection: 0,
-        unused: 0,
-        inhibit: false,
-        referenced: false,
-        modified: false,
-        user: 0,
-        frame: 0,
-    };
-
     #[test]
     fn single_bits_of_the_frame(rt: HostRuntime) {
         for k in 0..20u32 {
             let fields = EntryFields {
                 frame: 1 << k,
-                ..NONE
+                ..EntryFields::default()
             };
             assert_eq!(rt; EntryFields::from(0x1000 << k), fields);
             assert_eq!(rt; u32::try_from(fields), Ok(0x1000 << k));
@@ -91,7 +80,7 @@ mod tests {
                 unused,
                 user,
                 frame,
-                ..NONE
+                ..EntryFields::default()
             };
             assert_eq!(rt; u32::try_from(fields), Err(FieldTooWide));
         }
@@ -194,10 +183,9 @@ mod tests {
             (2, [true, true, true, false]),
             (3, [true, true, true, true]),
         ] {
-            assert_eq!(rt; permits(protection, 0), passes[0]);
-            assert_eq!(rt; permits(protection, 1), passes[1]);
-            assert_eq!(rt; permits(protection, 2), passes[2]);
-            assert_eq!(rt; permits(protection, 3), passes[3]);
+            for (level, pass) in (0..).zip(passes) {
+                assert_eq!(rt; permits(protection, level), pass);
+            }
         }
     }
 
@@ -261,11 +249,8 @@ mod tests {
 
     #[test]
     fn merges(rt: HostRuntime) {
-        for mask in 0..16 {
-            assert_eq!(rt;
-                merge(0xaabbccdd, 0x11223344, mask),
-                Some(MERGED[usize::from(mask)])
-            );
+        for (mask, merged) in (0..).zip(MERGED) {
+            assert_eq!(rt; merge(0xaabbccdd, 0x11223344, mask), Some(merged));
         }
         assert_eq!(rt; merge(0xaabbccdd, 0x11223344, 16), None);
         assert_eq!(rt; merge(0xaabbccdd, 0x11223344, 255), None);

@@ -116,17 +116,8 @@ fn of_entry(number: u8, level: TableLevel, address: u32, reason: u8) -> Report
 {
     Report {
         number,
-        level: level_number(level),
+        level: u8::from(level),
         address,
         reason,
-    }
-}
-
-fn level_number(level: TableLevel) -> u8
-    ensures { result ≡ number_of_level level }
-{
-    match level {
-        TableLevel::First => 1,
-        TableLevel::Second => 2,
     }
 }

@@ -63,6 +63,30 @@ mod tests {
         assert_eq!(rt; u8::from(READ_ONLY), 2);
     }
 
+    #[test]
+    fn errors_say_what_is_wrong(rt: HostRuntime) -> Result<(), Fail> {
+        for (error, text) in [
+            (
+                AssemblyError::Length,
+                "the length is zero, no multiple of the granule, or above the longest",
+            ),
+            (
+                AssemblyError::Placement,
+                "the start is no multiple of the granule, or the bytes would end above 2^32",
+            ),
+            (
+                AssemblyError::Boundary,
+                "the split or the shift is no multiple of the granule",
+            ),
+        ] {
+            assert_eq!(rt; error.to_string(rt.alloc())?.as_str(), text);
+        }
+        for (error, text) in [(ABSENT, "absent"), (READ_ONLY, "read-only")] {
+            assert_eq!(rt; error.to_string(rt.alloc())?.as_str(), text);
+        }
+        Ok(())
+    }
+
     // The first and the last bytes of a RAM, what lies beside it, and the bytes that the owner has afterwards.
     #[test]
     fn ram_ends(rt: HostRuntime) {

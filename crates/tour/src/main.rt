@@ -6,7 +6,7 @@
 ghost use Rattle.std.specs.Prelude.{◌≡◌, ◌/◌, true, false, IfOk, Some as Present};
 ghost use Rattle.entry.specs.Fields.{encoded};
 
-use anyhow::{Context, anyhow};
+use anyhow::Context;
 use entry::EntryFields;
 use entry::geometry::{
     PAGE_SIZE, first_entry_address, first_index, offset, page_number, second_entry_address,
@@ -87,17 +87,10 @@ fn entry_for(address: u32, protection: u8) -> anyhow::Result<u32>
     let fields = EntryFields {
         valid: true,
         protection,
-        unused: 0,
-        inhibit: false,
-        referenced: false,
-        modified: false,
-        user: 0,
         frame: address / PAGE_SIZE,
+        ..EntryFields::default()
     };
-    match fields.encode() {
-        Some(entry) => Ok(entry),
-        None => Err(anyhow!("a field is too wide")),
-    }
+    Ok(u32::try_from(fields)?)
 }
 
 fn show_planned(rt: &HostRuntime, what: &str, write: &Write) -> anyhow::Result<()> {
@@ -142,7 +135,7 @@ fn fill_page(memory: &mut Machine<'_>) -> anyhow::Result<()> {
 }
 
 fn show_fields(rt: &HostRuntime, entry: u32) -> anyhow::Result<()> {
-    let f = EntryFields::decode(entry);
+    let f = EntryFields::from(entry);
     let v = u8::from(f.valid);
     let pl = f.protection;
     let nu = f.unused;
