@@ -5,16 +5,16 @@ use Rattle.entry.specs.declared.TableLevel.{TableLevel}
 use Rattle.entry.specs.declared.TableLevel.TheVariants.{First, Second}
 use Rattle.physical.specs.Stores.{Values, Writable, WriteOutcome, dword, read_answer, write_answer}
 use Rattle.physical.specs.declared.MemoryError.{MemoryError}
-use Rattle.model.specs.declared.call.Answer.{Answer}
 use Rattle.model.specs.declared.call.Call.{Call}
 use Rattle.model.specs.declared.call.Call.TheVariants.{Reset, Load, Store, Access, Validate, BusRead, BusWrite, Edit, Flush}
 use Rattle.model.specs.declared.call.EntryName.{EntryName}
+use Rattle.model.specs.declared.call.Reply.TheVariants.{Done, Edited, Flag, Value}
 use Rattle.model.specs.declared.registers.Register.{Register}
 use Rattle.model.specs.declared.registers.Registers.{Registers}
 use Rattle.model.specs.declared.translation.Tag.{Tag}
 use Rattle.model.specs.Access.{access}
 use Rattle.model.specs.Bus.{bus_read, bus_write, is_aligned, is_mask, merge_transferred, put_transferred, transferred}
-use Rattle.model.specs.Calls.{RunState, as_done, as_edited, as_flag, as_translated, as_value, effect, flush_open, step}
+use Rattle.model.specs.Calls.{Answer, RunState, effect, flush_open, reply, step, translation_reply}
 use Rattle.model.specs.Edit.{edit, edit_named, named, reached, reached_at, reached_second, rewritten}
 use Rattle.model.specs.Loads.{load}
 use Rattle.model.specs.Registers.{register_of}
@@ -121,13 +121,13 @@ module _ (l : Layout) (laws : Lawful l) (w u : Writable) (r : Registers) (k j : 
   -- every call that is fair to both
   same_effect : (c : Call) (o p : List ℕ) → Fair l (run_of r k m o) c → Fair l (run_of r j n p) c → SameOutcome w u (effect l w c (run_of r k m o)).outcome (effect l u c (run_of r j n p)).outcome
   same_effect Reset o p x y = same_answered w u _ _ m n same
-  same_effect (Load code v) o p x y = same_answering w u as_done _ _ (same_load code v)
+  same_effect (Load code v) o p x y = same_answering w u (reply (λ _. Done)) _ _ (same_load code v)
   same_effect (Store code) o p x y = same_answered w u _ r m n same
-  same_effect (Access mode kind address) o p x y = same_answering w u as_translated _ _ (same_access mode kind address x.0 y.0)
-  same_effect (Validate kind address) o p x y = same_answering w u as_flag _ _ (same_validate kind address x.0 y.0)
-  same_effect (BusRead physical address) o p x y = same_answering w u as_value _ _ (same_bus_read physical address)
-  same_effect (BusWrite physical address mask v) o p x y = same_answering w u as_done _ _ (same_bus_write physical address mask v)
-  same_effect (Edit space level page v) o p x y = same_answering w u as_edited _ _ (same_edit space level page v)
+  same_effect (Access mode kind address) o p x y = same_answering w u (reply translation_reply) _ _ (same_access mode kind address x.0 y.0)
+  same_effect (Validate kind address) o p x y = same_answering w u (reply Flag) _ _ (same_validate kind address x.0 y.0)
+  same_effect (BusRead physical address) o p x y = same_answering w u (reply Value) _ _ (same_bus_read physical address)
+  same_effect (BusWrite physical address mask v) o p x y = same_answering w u (reply (λ _. Done)) _ _ (same_bus_write physical address mask v)
+  same_effect (Edit space level page v) o p x y = same_answering w u (reply Edited) _ _ (same_edit space level page v)
   same_effect (Flush a) o p x y = let d = x.1 a refl in let e = y.1 a refl in rw (d, e, flush_open) (same_answered w u _ r m n same)
 
 -- the same of states whose registers are equal

@@ -3,11 +3,10 @@ use Rattle.std.proofs.Common.{◌≡◌, ℕ, zero, suc, ◌<◌, ◌≤◌, tru
 use Rattle.std.proofs.lemmas.Bool.{cases_eq, true≢false}
 use Rattle.entry.specs.Layout.{Layout, Lawful}
 use Rattle.physical.specs.Stores.{Values, Writable, dword}
-use Rattle.model.specs.declared.call.Answer.{Answer}
 use Rattle.model.specs.declared.call.Call.{Call}
 use Rattle.model.specs.declared.registers.Registers.{Registers}
 use Rattle.model.specs.declared.translation.Translation.{Translation}
-use Rattle.model.specs.Calls.{RunState, after, effect, start, step}
+use Rattle.model.specs.Calls.{Answer, RunState, after, effect, start, step}
 use Rattle.model.specs.Currency.{current}
 use Rattle.model.specs.States.{Effect, State}
 use Rattle.model.specs.Tlb.{Holds, Tlb, TlbAction, acted, base_of, drop, fill, hit, of_tag, rest, without}

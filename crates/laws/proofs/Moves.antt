@@ -5,7 +5,6 @@ use Rattle.entry.specs.Access.{permits}
 use Rattle.entry.specs.Layout.{Layout, Lawful}
 use Rattle.physical.specs.Stores.{Values, Writable, dword, read_answer, write_answer}
 use Rattle.physical.specs.declared.MemoryError.{MemoryError}
-use Rattle.model.specs.declared.call.Answer.{Answer}
 use Rattle.model.specs.declared.call.Call.{Call}
 use Rattle.model.specs.declared.call.Call.TheVariants.{Reset, Load, Store, Access, Validate, BusRead, BusWrite, Edit, Flush}
 use Rattle.model.specs.declared.call.EntryName.{EntryName}
@@ -21,7 +20,7 @@ use Rattle.model.specs.declared.translation.Tag.{Tag}
 use Rattle.model.specs.declared.translation.Translation.{Translation}
 use Rattle.model.specs.Access.{access, access_kept, access_sought, access_through, access_walking, walk_action, walk_outcome}
 use Rattle.model.specs.Bus.{bus_read, bus_write, is_aligned, is_mask, merge_transferred, put_transferred, transferred}
-use Rattle.model.specs.Calls.{RunState, effect, flush_open, is_open}
+use Rattle.model.specs.Calls.{Answer, RunState, effect, flush_open, is_open}
 use Rattle.model.specs.Edit.{edit, edit_named, named, reached, rewritten}
 use Rattle.model.specs.Loads.{load, load_action}
 use Rattle.model.specs.Refusals.{noted}

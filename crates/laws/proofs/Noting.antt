@@ -17,10 +17,10 @@ use Rattle.entry.proofs.Bitwise.{and_field, beside, or_field}
 use Rattle.entry.specs.Bus.{merged}
 use Rattle.physical.specs.Stores.{Values, Writable, WriteOutcome, dword, read_answer, write_answer}
 use Rattle.physical.specs.declared.MemoryError.{MemoryError}
-use Rattle.model.specs.declared.call.Answer.TheVariants.{Done, Edited, Flag, Flushed, NotOpen, Refused, Translated, Value}
 use Rattle.model.specs.declared.call.Call.{Call}
 use Rattle.model.specs.declared.call.Call.TheVariants.{Reset, Load, Store, Access, Validate, BusRead, BusWrite, Edit, Flush}
 use Rattle.model.specs.declared.call.EntryName.{EntryName}
+use Rattle.model.specs.declared.call.Reply.TheVariants.{Done, Edited, Flag, Flushed, NotOpen, Translated, Value}
 use Rattle.model.specs.declared.call.Request.{Request}
 use Rattle.model.specs.declared.refusal.Abort.{Abort}
 use Rattle.model.specs.declared.refusal.Abort.TheVariants.{Breakpoint, InvalidEntry, Protection, EntryRefused}
@@ -31,7 +31,7 @@ use Rattle.model.specs.declared.translation.Hit.{Hit}
 use Rattle.model.specs.declared.translation.Translation.{Translation}
 use Rattle.model.specs.Access.{Accessed, access, access_kept, access_sought, walk_outcome, walked}
 use Rattle.model.specs.Bus.{bus_read, bus_write, is_aligned, is_mask, merge_transferred, put_transferred, transferred}
-use Rattle.model.specs.Calls.{RunState, as_done, as_edited, as_flag, as_translated, as_value, flush_open, is_open}
+use Rattle.model.specs.Calls.{RunState, flush_open, is_open, reply, translation_reply}
 use Rattle.model.specs.Edit.{edit, edit_named, named, reached, rewritten}
 use Rattle.model.specs.Loads.{store_answer}
 use Rattle.model.specs.Registers.{translate_user}
@@ -199,99 +199,99 @@ validated_ends l q s = on (find (sought l s.registers q) s.tlb.slots) refl
     on (Some h) e = rw (e, validate_sought) (done _)
 
 -- so far as a request comes
-access_told : (c : Call) (q : Request) → request_of c ≡ Ok q → (r r' : Registers) (x : Accessed) → Ends q r x r' → Notes c r (as_translated x) r'
-access_told c q e r r' x (done (a, i)) = of_none (Translated a i) refl
+access_told : (c : Call) (q : Request) → request_of c ≡ Ok q → (r r' : Registers) (x : Accessed) → Ends q r x r' → Notes c r (reply translation_reply x) r'
+access_told c q e r r' x (done (a, i)) = of_none (Ok (Translated a i)) refl
 access_told c q e r r' x (aborts y) = of_abort y q (noted y q r) e (abort_notes y q r)
 
-validation_told : (c : Call) (q : Request) → request_of c ≡ Ok q → (r r' : Registers) (x : Validated) → Ends q r x r' → Notes c r (as_flag x) r'
-validation_told c q e r r' x (done f) = of_none (Flag f) refl
+validation_told : (c : Call) (q : Request) → request_of c ≡ Ok q → (r r' : Registers) (x : Validated) → Ends q r x r' → Notes c r (reply Flag x) r'
+validation_told c q e r r' x (done f) = of_none (Ok (Flag f)) refl
 validation_told c q e r r' x (aborts y) = of_abort y q (noted y q r) e (abort_notes y q r)
 
-access_notes : (l : Layout) (mode kind address : ℕ) (s : State) (w : Writable) → Notes (Access mode kind address) s.registers (as_translated (access l mode kind address s w).outcome.answer) (access l mode kind address s w).outcome.registers
+access_notes : (l : Layout) (mode kind address : ℕ) (s : State) (w : Writable) → Notes (Access mode kind address) s.registers (reply translation_reply (access l mode kind address s w).outcome.answer) (access l mode kind address s w).outcome.registers
 access_notes l mode kind address s w = on (access_read mode kind address)
   where
     asked : (q : Request) → access_request mode kind address ≡ Ok q → (b : Bool) → breaks s.registers q ≡ b → (c : Bool) → translates s.registers q.mode ≡ c →
-        Notes (Access mode kind address) s.registers (as_translated (access l mode kind address s w).outcome.answer) (access l mode kind address s w).outcome.registers
+        Notes (Access mode kind address) s.registers (reply translation_reply (access l mode kind address s w).outcome.answer) (access l mode kind address s w).outcome.registers
     asked q e true b c _ = rw (e, access_gate, b) (of_abort Breakpoint q (noted Breakpoint q s.registers) e (abort_notes Breakpoint q s.registers))
     asked q e false b true c = rw (e, access_gate, b, translate_gate, c) (access_told (Access mode kind address) q e s.registers _ _ (sought_ends l q s w))
-    asked q e false b false c = rw (e, access_gate, b, translate_gate, c) (of_none (Translated q.address false) refl)
+    asked q e false b false c = rw (e, access_gate, b, translate_gate, c) (of_none (Ok (Translated q.address false)) refl)
 
-    on : AccessRead mode kind address → Notes (Access mode kind address) s.registers (as_translated (access l mode kind address s w).outcome.answer) (access l mode kind address s w).outcome.registers
-    on (unlisted b e) = rw (e, access_gate) (of_none (Refused BadAccess) refl)
+    on : AccessRead mode kind address → Notes (Access mode kind address) s.registers (reply translation_reply (access l mode kind address s w).outcome.answer) (access l mode kind address s w).outcome.registers
+    on (unlisted b e) = rw (e, access_gate) (of_none (Err BadAccess) refl)
     on (listed_as q b e) = asked q e _ refl _ refl
 
 validation_asked : (l : Layout) (kind address : ℕ) (s : State) (q : Request) → validation_request kind address ≡ Ok q → (b : Bool) → translates s.registers q.mode ≡ b →
-    Notes (Validate kind address) s.registers (as_flag (validate l kind address s).outcome.answer) (validate l kind address s).outcome.registers
+    Notes (Validate kind address) s.registers (reply Flag (validate l kind address s).outcome.answer) (validate l kind address s).outcome.registers
 validation_asked l kind address s q e true b = rw (e, validation_gate, b) (validation_told (Validate kind address) q e s.registers _ _ (validated_ends l q s))
-validation_asked l kind address s q e false b = rw (e, validation_gate, b) (of_none (Flag false) refl)
+validation_asked l kind address s q e false b = rw (e, validation_gate, b) (of_none (Ok (Flag false)) refl)
 
-validate_notes : (l : Layout) (kind address : ℕ) (s : State) → Notes (Validate kind address) s.registers (as_flag (validate l kind address s).outcome.answer) (validate l kind address s).outcome.registers
+validate_notes : (l : Layout) (kind address : ℕ) (s : State) → Notes (Validate kind address) s.registers (reply Flag (validate l kind address s).outcome.answer) (validate l kind address s).outcome.registers
 validate_notes l zero address s = validation_asked l zero address s _ refl (translate_user s.registers) refl
 validate_notes l (suc zero) address s = validation_asked l 1 address s _ refl (translate_user s.registers) refl
 validate_notes l (suc (suc kind)) address s =
     let e : validation_request (suc (suc kind)) address ≡ Err BadAccess = grind (arith, nat_tests) in
-    rw (e, validation_gate) (of_none (Refused BadAccess) refl)
+    rw (e, validation_gate) (of_none (Err BadAccess) refl)
 
 -- the outcome of a bus transfer, and of an edit
-store_notes : (code : ℕ) (r : Registers) → Notes (Store code) r (as_value (store_answer code r)) r
-store_notes code r = of_none (as_value (store_answer code r)) (grind (arith, nat_tests))
+store_notes : (code : ℕ) (r : Registers) → Notes (Store code) r (reply Value (store_answer code r)) r
+store_notes code r = of_none (reply Value (store_answer code r)) (grind (arith, nat_tests))
 
-bus_read_notes : (physical address : ℕ) (s : State) → Notes (BusRead physical address) s.registers (as_value (bus_read physical address s).outcome.answer) (bus_read physical address s).outcome.registers
+bus_read_notes : (physical address : ℕ) (s : State) → Notes (BusRead physical address) s.registers (reply Value (bus_read physical address s).outcome.answer) (bus_read physical address s).outcome.registers
 bus_read_notes physical address s = on (is_aligned physical) refl
   where
-    on_answer : (x : Result ℕ MemoryError) → Notes (BusRead physical address) s.registers (as_value (transferred physical address x s).outcome.answer) (transferred physical address x s).outcome.registers
-    on_answer (Ok v) = of_none (Value v) refl
+    on_answer : (x : Result ℕ MemoryError) → Notes (BusRead physical address) s.registers (reply Value (transferred physical address x s).outcome.answer) (transferred physical address x s).outcome.registers
+    on_answer (Ok v) = of_none (Ok (Value v)) refl
     on_answer (Err e) = of_bus_error physical e address (bus_error_noted address s.registers) refl (bus_error_notes address s.registers)
 
-    on : (b : Bool) → is_aligned physical ≡ b → Notes (BusRead physical address) s.registers (as_value (bus_read physical address s).outcome.answer) (bus_read physical address s).outcome.registers
+    on : (b : Bool) → is_aligned physical ≡ b → Notes (BusRead physical address) s.registers (reply Value (bus_read physical address s).outcome.answer) (bus_read physical address s).outcome.registers
     on true e = rw (e, bus_read) (on_answer (read_answer (s.values (dword physical))))
-    on false e = rw (e, bus_read) (of_none (Refused MisalignedTransfer) refl)
+    on false e = rw (e, bus_read) (of_none (Err MisalignedTransfer) refl)
 
 bus_write_notes : (physical address mask v : ℕ) (s : State) (w : Writable) →
-    Notes (BusWrite physical address mask v) s.registers (as_done (bus_write physical address mask v s w).outcome.answer) (bus_write physical address mask v s w).outcome.registers
+    Notes (BusWrite physical address mask v) s.registers (reply (λ _. Done) (bus_write physical address mask v s w).outcome.answer) (bus_write physical address mask v s w).outcome.registers
 bus_write_notes physical address mask v s w = on (is_aligned physical) refl (is_mask mask) refl
   where
     on_put : (u : ℕ) (x : WriteOutcome) → write_answer (s.values (dword physical)) (w (dword physical)) ≡ x →
-        Notes (BusWrite physical address mask v) s.registers (as_done (put_transferred physical address u s w).outcome.answer) (put_transferred physical address u s w).outcome.registers
-    on_put u (Ok z) e = rw (e, put_transferred) (of_none Done refl)
+        Notes (BusWrite physical address mask v) s.registers (reply (λ _. Done) (put_transferred physical address u s w).outcome.answer) (put_transferred physical address u s w).outcome.registers
+    on_put u (Ok z) e = rw (e, put_transferred) (of_none (Ok Done) refl)
     on_put u (Err z) e = rw (e, put_transferred) (of_bus_error physical z address (bus_error_noted address s.registers) refl (bus_error_notes address s.registers))
 
     on_read : (x : Result ℕ MemoryError) → read_answer (s.values (dword physical)) ≡ x →
-        Notes (BusWrite physical address mask v) s.registers (as_done (merge_transferred physical address mask v s w).outcome.answer) (merge_transferred physical address mask v s w).outcome.registers
+        Notes (BusWrite physical address mask v) s.registers (reply (λ _. Done) (merge_transferred physical address mask v s w).outcome.answer) (merge_transferred physical address mask v s w).outcome.registers
     on_read (Ok old) e = rw (e, merge_transferred) (on_put (merged old v mask) _ refl)
     on_read (Err z) e = rw (e, merge_transferred) (of_bus_error physical z address (bus_error_noted address s.registers) refl (bus_error_notes address s.registers))
 
     on : (b : Bool) → is_aligned physical ≡ b → (c : Bool) → is_mask mask ≡ c →
-        Notes (BusWrite physical address mask v) s.registers (as_done (bus_write physical address mask v s w).outcome.answer) (bus_write physical address mask v s w).outcome.registers
+        Notes (BusWrite physical address mask v) s.registers (reply (λ _. Done) (bus_write physical address mask v s w).outcome.answer) (bus_write physical address mask v s w).outcome.registers
     on true b true c = rw (b, bus_write, c) (on_read _ refl)
-    on true b false c = rw (b, bus_write, c) (of_none (Refused BadMask) refl)
-    on false b c _ = rw (b, bus_write) (of_none (Refused MisalignedTransfer) refl)
+    on true b false c = rw (b, bus_write, c) (of_none (Err BadMask) refl)
+    on false b c _ = rw (b, bus_write) (of_none (Err MisalignedTransfer) refl)
 
 edit_notes : (l : Layout) (space level page v : ℕ) (s : State) (w : Writable) →
-    Notes (Edit space level page v) s.registers (as_edited (edit l space level page v s w).outcome.answer) (edit l space level page v s w).outcome.registers
+    Notes (Edit space level page v) s.registers (reply Edited (edit l space level page v s w).outcome.answer) (edit l space level page v s w).outcome.registers
 edit_notes l space level page v s w = on_name (named l space level page) refl
   where
     on_write : (a : ℕ) (x : WriteOutcome) → write_answer (s.values (dword a)) (w (dword a)) ≡ x →
-        Notes (Edit space level page v) s.registers (as_edited (rewritten a v s w).outcome.answer) (rewritten a v s w).outcome.registers
-    on_write a (Ok z) e = rw (e, rewritten) (of_none (Edited a) refl)
-    on_write a (Err z) e = rw (e, rewritten) (of_none (Refused EntryNotWritten) refl)
+        Notes (Edit space level page v) s.registers (reply Edited (rewritten a v s w).outcome.answer) (rewritten a v s w).outcome.registers
+    on_write a (Ok z) e = rw (e, rewritten) (of_none (Ok (Edited a)) refl)
+    on_write a (Err z) e = rw (e, rewritten) (of_none (Err EntryNotWritten) refl)
 
     on_reach : (n : EntryName) (o : Option ℕ) → reached l n s.registers s.values ≡ o →
-        Notes (Edit space level page v) s.registers (as_edited (edit_named l n v s w).outcome.answer) (edit_named l n v s w).outcome.registers
-    on_reach n None e = rw (e, edit_named) (of_none (Refused EntryNotWritten) refl)
+        Notes (Edit space level page v) s.registers (reply Edited (edit_named l n v s w).outcome.answer) (edit_named l n v s w).outcome.registers
+    on_reach n None e = rw (e, edit_named) (of_none (Err EntryNotWritten) refl)
     on_reach n (Some a) e = rw (e, edit_named) (on_write a _ refl)
 
     on_name : (o : Option EntryName) → named l space level page ≡ o →
-        Notes (Edit space level page v) s.registers (as_edited (edit l space level page v s w).outcome.answer) (edit l space level page v s w).outcome.registers
-    on_name None e = rw (e, edit) (of_none (Refused BadEntryName) refl)
+        Notes (Edit space level page v) s.registers (reply Edited (edit l space level page v s w).outcome.answer) (edit l space level page v s w).outcome.registers
+    on_name None e = rw (e, edit) (of_none (Err BadEntryName) refl)
     on_name (Some n) e = rw (e, edit) (on_reach n _ refl)
 
 flush_notes : (a : ℕ) (s : RunState) → Notes (Flush a) s.unit.registers (flush_open a s).outcome.answer (flush_open a s).outcome.registers
 flush_notes a s = on (is_open a s.open_tokens) refl
   where
     on : (b : Bool) → is_open a s.open_tokens ≡ b → Notes (Flush a) s.unit.registers (flush_open a s).outcome.answer (flush_open a s).outcome.registers
-    on true e = rw (e, flush_open) (of_none Flushed refl)
-    on false e = rw (e, flush_open) (of_none NotOpen refl)
+    on true e = rw (e, flush_open) (of_none (Ok Flushed) refl)
+    on false e = rw (e, flush_open) (of_none (Ok NotOpen) refl)
 
 pub register_notes : (l : Layout) → RegisterNotes l
 register_notes l w s Reset h = absurd (true≢false h)

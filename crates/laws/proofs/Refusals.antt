@@ -8,6 +8,7 @@ use Rattle.entry.specs.declared.TableLevel.TheVariants.{First, Second}
 use Rattle.physical.specs.Stores.{Values, Writable, dword}
 use Rattle.model.specs.declared.call.Call.{Call}
 use Rattle.model.specs.declared.call.Call.TheVariants.{Reset, Load, Store, Access, Validate, BusRead, BusWrite, Edit, Flush}
+use Rattle.model.specs.declared.call.Reply.TheVariants.{Edited}
 use Rattle.model.specs.declared.call.Request.{Request}
 use Rattle.model.specs.declared.refusal.Abort.{Abort}
 use Rattle.model.specs.declared.refusal.Abort.TheVariants.{Breakpoint, InvalidEntry, Protection, EntryRefused}
@@ -16,7 +17,7 @@ use Rattle.model.specs.declared.registers.Registers.{Registers}
 use Rattle.model.specs.declared.translation.Hit.{Hit}
 use Rattle.model.specs.declared.translation.Translation.{Translation}
 use Rattle.model.specs.Access.{access, access_kept, access_sought, walk_outcome, walked}
-use Rattle.model.specs.Calls.{RunState, answer_number, as_edited, as_translated, step}
+use Rattle.model.specs.Calls.{RunState, answer_number, reply, step, translation_reply}
 use Rattle.model.specs.Edit.{edit, edit_named, reached_second, rewritten}
 use Rattle.model.specs.Refusals.{abort_report}
 use Rattle.model.specs.Requests.{access_gate, access_request, breaks, level_of, marks_modified, sought, translate_gate, translates}
@@ -33,32 +34,32 @@ abort_mild Protection = refl
 abort_mild (EntryRefused t a e) = refl
 
 -- nor is what an access answers that looks for its page
-walk_mild : (l : Layout) (q : Request) (r : Registers) (x : Result Translation Abort × Values) → is_outright (answer_number (as_translated (walk_outcome l q r x).answer)) ≡ false
+walk_mild : (l : Layout) (q : Request) (r : Registers) (x : Result Translation Abort × Values) → is_outright (answer_number (reply translation_reply (walk_outcome l q r x).answer)) ≡ false
 walk_mild l q r (Ok t, m) = refl
 walk_mild l q r (Err x, m) = abort_mild x
 
-kept_mild : (l : Layout) (q : Request) (h : Hit) (s : State) (w : Writable) → is_outright (answer_number (as_translated (access_kept l q h s w).outcome.answer)) ≡ false
+kept_mild : (l : Layout) (q : Request) (h : Hit) (s : State) (w : Writable) → is_outright (answer_number (reply translation_reply (access_kept l q h s w).outcome.answer)) ≡ false
 kept_mild l q h s w = on (permits h.translation.protection (level_of s.registers q)) refl (not (marks_modified q.kind) || h.translation.modified) refl
   where
     on : (b : Bool) → permits h.translation.protection (level_of s.registers q) ≡ b → (c : Bool) → (not (marks_modified q.kind) || h.translation.modified) ≡ c →
-        is_outright (answer_number (as_translated (access_kept l q h s w).outcome.answer)) ≡ false
+        is_outright (answer_number (reply translation_reply (access_kept l q h s w).outcome.answer)) ≡ false
     on true b true c = rw (b, access_kept, c)
     on true b false c = rw (b, access_kept, c) (walk_mild l q s.registers (walked l q s.registers s.values w))
     on false b c _ = rw (b, access_kept)
 
-sought_mild : (l : Layout) (q : Request) (s : State) (w : Writable) → is_outright (answer_number (as_translated (access_sought l q s w).outcome.answer)) ≡ false
+sought_mild : (l : Layout) (q : Request) (s : State) (w : Writable) → is_outright (answer_number (reply translation_reply (access_sought l q s w).outcome.answer)) ≡ false
 sought_mild l q s w = on (find (sought l s.registers q) s.tlb.slots) refl
   where
-    on : (o : Option Hit) → find (sought l s.registers q) s.tlb.slots ≡ o → is_outright (answer_number (as_translated (access_sought l q s w).outcome.answer)) ≡ false
+    on : (o : Option Hit) → find (sought l s.registers q) s.tlb.slots ≡ o → is_outright (answer_number (reply translation_reply (access_sought l q s w).outcome.answer)) ≡ false
     on None e = rw (e, access_sought) (walk_mild l q s.registers (walked l q s.registers s.values w))
     on (Some h) e = rw (e, access_sought) (kept_mild l q h s w)
 
 -- an access whose mode and kind are on the list
 asked_mild : (l : Layout) (mode kind address : ℕ) (q : Request) (s : State) (w : Writable) → access_request mode kind address ≡ Ok q →
-    is_outright (answer_number (as_translated (access l mode kind address s w).outcome.answer)) ≡ false
+    is_outright (answer_number (reply translation_reply (access l mode kind address s w).outcome.answer)) ≡ false
 asked_mild l mode kind address q s w e = on (breaks s.registers q) refl (translates s.registers q.mode) refl
   where
-    on : (b : Bool) → breaks s.registers q ≡ b → (c : Bool) → translates s.registers q.mode ≡ c → is_outright (answer_number (as_translated (access l mode kind address s w).outcome.answer)) ≡ false
+    on : (b : Bool) → breaks s.registers q ≡ b → (c : Bool) → translates s.registers q.mode ≡ c → is_outright (answer_number (reply translation_reply (access l mode kind address s w).outcome.answer)) ≡ false
     on true b c _ = rw (e, access_gate, b)
     on false b true c = rw (e, access_gate, b, translate_gate, c) (sought_mild l q s w)
     on false b false c = rw (e, access_gate, b, translate_gate, c)
@@ -79,10 +80,10 @@ access_read (suc zero) (suc (suc zero)) address = listed_as _ refl refl
 access_read (suc zero) (suc (suc (suc kind))) address = unlisted (grind (arith, nat_tests)) (grind (arith, nat_tests))
 access_read (suc (suc mode)) kind address = unlisted (grind (arith, nat_tests)) (grind (arith, nat_tests))
 
-access_exactly : (l : Layout) (mode kind address : ℕ) (s : State) (w : Writable) → outright_number (answer_number (as_translated (access l mode kind address s w).outcome.answer)) ≡ cond (leb mode 1 && leb kind 2) 0 6
+access_exactly : (l : Layout) (mode kind address : ℕ) (s : State) (w : Writable) → outright_number (answer_number (reply translation_reply (access l mode kind address s w).outcome.answer)) ≡ cond (leb mode 1 && leb kind 2) 0 6
 access_exactly l mode kind address s w = on (access_read mode kind address)
   where
-    on : AccessRead mode kind address → outright_number (answer_number (as_translated (access l mode kind address s w).outcome.answer)) ≡ cond (leb mode 1 && leb kind 2) 0 6
+    on : AccessRead mode kind address → outright_number (answer_number (reply translation_reply (access l mode kind address s w).outcome.answer)) ≡ cond (leb mode 1 && leb kind 2) 0 6
     on (unlisted b e) = rw (e, access_gate, b)
     on (listed_as q b e) = rw (b, asked_mild l mode kind address q s w e)
 
@@ -94,25 +95,25 @@ access_alters_nothing l mode kind address s w h = on (access_read mode kind addr
     on (listed_as q b e) = absurd (true≢false (sym h ∙ asked_mild l mode kind address q s.unit w e))
 
 -- an edit that has reached its entry
-written_exactly : (a v : ℕ) (s : State) (w : Writable) → outright_number (answer_number (as_edited (rewritten a v s w).outcome.answer)) ≡ cond (can_be_written s.values w a) 0 16
+written_exactly : (a v : ℕ) (s : State) (w : Writable) → outright_number (answer_number (reply Edited (rewritten a v s w).outcome.answer)) ≡ cond (can_be_written s.values w a) 0 16
 written_exactly a v s w = grind (arith, nat_tests)
 
 -- an edit whose name is on the list, by its level
 first_exactly : (l : Layout) (space page v : ℕ) (s : State) (w : Writable) →
-    outright_number (answer_number (as_edited (edit_named l (record { space = space; level = First; page = page }) v s w).outcome.answer)) ≡ cond (entry_can_be_written l s.registers s.values w space 1 page) 0 16
+    outright_number (answer_number (reply Edited (edit_named l (record { space = space; level = First; page = page }) v s w).outcome.answer)) ≡ cond (entry_can_be_written l s.registers s.values w space 1 page) 0 16
 first_exactly l space page v s w = written_exactly (l.first_entry (base_of s.registers (tag_of s.registers space page)) page) v s w
 
 second_exactly : (l : Layout) (space page v : ℕ) (s : State) (w : Writable) →
-    outright_number (answer_number (as_edited (edit_named l (record { space = space; level = Second; page = page }) v s w).outcome.answer)) ≡ cond (entry_can_be_written l s.registers s.values w space 2 page) 0 16
+    outright_number (answer_number (reply Edited (edit_named l (record { space = space; level = Second; page = page }) v s w).outcome.answer)) ≡ cond (entry_can_be_written l s.registers s.values w space 2 page) 0 16
 second_exactly l space page v s w = on (s.values (dword (l.first_entry (base_of s.registers (tag_of s.registers space page)) page))) refl
   where
     on_valid : (e : ℕ) → s.values (dword (l.first_entry (base_of s.registers (tag_of s.registers space page)) page)) ≡ Some e → (b : Bool) → l.valid e ≡ b →
-        outright_number (answer_number (as_edited (edit_named l (record { space = space; level = Second; page = page }) v s w).outcome.answer)) ≡ cond (entry_can_be_written l s.registers s.values w space 2 page) 0 16
+        outright_number (answer_number (reply Edited (edit_named l (record { space = space; level = Second; page = page }) v s w).outcome.answer)) ≡ cond (entry_can_be_written l s.registers s.values w space 2 page) 0 16
     on_valid e h true b = rw (h, edit_named, reached_second, b) (written_exactly (l.second_entry (l.frame e) page) v s w)
     on_valid e h false b = rw (h, edit_named, reached_second, b)
 
     on : (o : Option ℕ) → s.values (dword (l.first_entry (base_of s.registers (tag_of s.registers space page)) page)) ≡ o →
-        outright_number (answer_number (as_edited (edit_named l (record { space = space; level = Second; page = page }) v s w).outcome.answer)) ≡ cond (entry_can_be_written l s.registers s.values w space 2 page) 0 16
+        outright_number (answer_number (reply Edited (edit_named l (record { space = space; level = Second; page = page }) v s w).outcome.answer)) ≡ cond (entry_can_be_written l s.registers s.values w space 2 page) 0 16
     on None h = rw (h, edit_named, reached_second)
     on (Some e) h = on_valid e h _ refl
 

@@ -6,8 +6,6 @@ use Rattle.entry.specs.Layout.{Layout}
 use Rattle.entry.specs.declared.TableLevel.TheVariants.{First, Second}
 use Rattle.physical.specs.Stores.{Writable}
 use Rattle.physical.specs.declared.MemoryError.{MemoryError}
-use Rattle.model.specs.declared.call.Answer.{Answer}
-use Rattle.model.specs.declared.call.Answer.TheVariants.{Refused}
 use Rattle.model.specs.declared.call.Call.{Call}
 use Rattle.model.specs.declared.call.Call.TheVariants.{Reset, Load, Store, Access, Validate, BusRead, BusWrite, Edit, Flush}
 use Rattle.model.specs.declared.call.Request.{Request}
@@ -16,7 +14,7 @@ use Rattle.model.specs.declared.refusal.Abort.TheVariants.{Breakpoint, InvalidEn
 use Rattle.model.specs.declared.refusal.Refusal.{Refusal}
 use Rattle.model.specs.declared.refusal.Refusal.TheVariants.{Aborted, BadAccess, BusError}
 use Rattle.model.specs.declared.registers.Registers.{Registers}
-use Rattle.model.specs.Calls.{RunState, answer_number, step}
+use Rattle.model.specs.Calls.{Answer, RunState, answer_number, step}
 use Rattle.model.specs.Refusals.{is_write}
 use Rattle.model.specs.Requests.{access_request, validation_request}
 
@@ -105,8 +103,8 @@ is_noted x = nat_le 9 (answer_number x) && nat_le (answer_number x) 14
 
 -- what a call leaves in the registers, by its answer: the notes of an abort, those of a bus error, or nothing
 pub data Notes (c : Call) (r : Registers) : Answer → Registers → Type 0 where
-  of_abort : (x : Abort) (q : Request) (r' : Registers) → request_of c ≡ Ok q → AbortNotes x q r r' → Notes c r (Refused (Aborted x)) r'
-  of_bus_error : (a : ℕ) (e : MemoryError) (address : ℕ) (r' : Registers) → served_address c ≡ Some address → BusErrorNotes address r r' → Notes c r (Refused (BusError a e)) r'
+  of_abort : (x : Abort) (q : Request) (r' : Registers) → request_of c ≡ Ok q → AbortNotes x q r r' → Notes c r (Err (Aborted x)) r'
+  of_bus_error : (a : ℕ) (e : MemoryError) (address : ℕ) (r' : Registers) → served_address c ≡ Some address → BusErrorNotes address r r' → Notes c r (Err (BusError a e)) r'
   of_none : (x : Answer) → is_noted x ≡ false → Notes c r x r
 
 -- resets and loads set registers; every other call leaves what its answer says, in every state

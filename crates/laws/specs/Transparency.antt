@@ -2,9 +2,9 @@
 use Rattle.std.specs.Prelude.{◌≡◌, ℕ, ◌*◌, ◌^◌, ◌<◌, ◌≤◌, Bool, true, false, ◌↔◌, List, Some, None, Ok, Option}
 use Rattle.entry.specs.Layout.{Layout}
 use Rattle.physical.specs.Stores.{Values, Writable}
-use Rattle.model.specs.declared.call.Answer.TheVariants.{Translated}
 use Rattle.model.specs.declared.call.Call.{Call}
 use Rattle.model.specs.declared.call.Call.TheVariants.{Access}
+use Rattle.model.specs.declared.call.Reply.TheVariants.{Translated}
 use Rattle.model.specs.declared.call.Request.{Request}
 use Rattle.model.specs.declared.registers.Registers.{Registers}
 use Rattle.model.specs.declared.translation.Tag.{Tag}
@@ -85,5 +85,5 @@ WritesMarkPages l = (w : Writable) (m : Values) (calls : List Call) (s : RunStat
     s ≡ after l w calls (start m) →
     access_request mode kind address ≡ Ok q → marks_modified q.kind ≡ true →
     access_seeks l s.unit.registers mode kind address ≡ Some tag → NoneStale l s.unit tag →
-    (step l w (Access mode kind address) s).0 ≡ Translated a inhibit →
+    (step l w (Access mode kind address) s).0 ≡ Ok (Translated a inhibit) →
     MarkedModified l (step l w (Access mode kind address) s).1.unit tag

@@ -2,12 +2,11 @@
 use Rattle.std.specs.Prelude.{◌≡◌, ℕ, List, [], ◌∷◌, ◌++◌, take, Some, None, Option}
 use Rattle.entry.specs.Layout.{Layout}
 use Rattle.physical.specs.Stores.{Writable}
-use Rattle.model.specs.declared.call.Answer.{Answer}
 use Rattle.model.specs.declared.call.Call.{Call}
 use Rattle.model.specs.declared.call.Call.TheVariants.{Edit, Flush}
 use Rattle.model.specs.declared.call.Command.{Command}
 use Rattle.model.specs.declared.call.Command.TheVariants.{One, EditThenFlush}
-use Rattle.model.specs.Calls.{RunState, after, answers, step, token_of}
+use Rattle.model.specs.Calls.{Answer, RunState, after, answers, step, token_of}
 
 -- the flush that an edit calls for: of its token, if it handed out one
 abbrev pub then_flush : Option ℕ → List Call

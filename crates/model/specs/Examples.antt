@@ -1,11 +1,11 @@
 -- Two runs worked out by the definitions.
-use Rattle.std.specs.Prelude.{◌≡◌, ℕ, Bool, true, false, cond, List, [], ◌∷◌, replicate, Some, None, nat_lt}
+use Rattle.std.specs.Prelude.{◌≡◌, ℕ, Bool, true, false, cond, List, [], ◌∷◌, replicate, Some, None, Ok, Err, nat_lt}
 use Rattle.entry.specs.NS32382.{ns32382}
 use Rattle.physical.specs.Stores.{Values, dword}
 use Rattle.physical.specs.Made.{everywhere}
-use Rattle.model.specs.declared.call.Answer.TheVariants.{Done, Value, Translated, Edited, Flushed, Refused}
 use Rattle.model.specs.declared.call.Call.{Call}
 use Rattle.model.specs.declared.call.Call.TheVariants.{Load, Access, BusRead, BusWrite, Edit, Flush}
+use Rattle.model.specs.declared.call.Reply.TheVariants.{Done, Value, Translated, Edited, Flushed}
 use Rattle.model.specs.declared.refusal.Abort.TheVariants.{Protection}
 use Rattle.model.specs.declared.refusal.Refusal.TheVariants.{Aborted}
 use Rattle.model.specs.declared.translation.Translation.{Translation}
@@ -50,7 +50,7 @@ KeptThen v is_current =
 
 pub record WorkedRun : Type 0 where
   pub answers : answers ns32382 everywhere worked_calls (start zeroed_ram)
-      ≡ Done ∷ Done ∷ Done ∷ Done ∷ Translated 0x5004 false ∷ Refused (Aborted Protection) ∷ Value 0x5085 ∷ []
+      ≡ Ok Done ∷ Ok Done ∷ Ok Done ∷ Ok Done ∷ Ok (Translated 0x5004 false) ∷ Err (Aborted Protection) ∷ Ok (Value 0x5085) ∷ []
   pub registers : worked_end.unit.registers
       ≡ record { bar = 0; bmr = 0; bdr = 0; bear = 0; mcr = 3; msr = 0x00f; tear = 0x00403004; ptb0 = 0x1000; ptb1 = 0 }
   pub kept : worked_end.unit.tlb.slots ≡ Some worked_translation ∷ replicate 31 None
@@ -77,11 +77,11 @@ write_end = after ns32382 everywhere write_calls (start zeroed_ram)
 
 pub record WriteRun : Type 0 where
   pub answers : answers ns32382 everywhere write_calls (start zeroed_ram)
-      ≡ Done ∷ Done ∷ Done ∷ Done
-      ∷ Translated 0x5004 false ∷ Value 0x5087
-      ∷ Translated 0x5004 false ∷ Value 0x5187 ∷ Translated 0x5008 false
-      ∷ Edited 0x200c ∷ Flushed
-      ∷ Translated 0x5004 false ∷ Value 0x5187 ∷ []
+      ≡ Ok Done ∷ Ok Done ∷ Ok Done ∷ Ok Done
+      ∷ Ok (Translated 0x5004 false) ∷ Ok (Value 0x5087)
+      ∷ Ok (Translated 0x5004 false) ∷ Ok (Value 0x5187) ∷ Ok (Translated 0x5008 false)
+      ∷ Ok (Edited 0x200c) ∷ Ok Flushed
+      ∷ Ok (Translated 0x5004 false) ∷ Ok (Value 0x5187) ∷ []
   -- slot 0 was filled by the read and emptied by the first write, slot 1 filled by that write and emptied by the flush
   pub kept : write_end.unit.tlb.slots
       ≡ None ∷ None

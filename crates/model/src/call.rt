@@ -73,8 +73,9 @@ pub enum Command {
     },
 }
 
+// What a call that is not refused answers.
 #[derive(Clone, Copy, PartialEq, Eq, Debug)]
-pub enum Answer {
+pub enum Reply {
     Done,
     Value(u32),
     Translated { physical: u32, inhibit: bool },
@@ -85,5 +86,6 @@ pub enum Answer {
     Flushed,
     // No token of that address was open.
     NotOpen,
-    Refused(Refusal),
 }
+
+pub type Answer = Result<Reply, Refusal>;
