@@ -7,6 +7,7 @@ use Rattle.physical.specs.Stores.{Values, Writable, WriteOutcome, dword, read_an
 use Rattle.physical.specs.declared.MemoryError.{MemoryError}
 use Rattle.model.specs.declared.call.Call.{Call}
 use Rattle.model.specs.declared.call.Call.TheVariants.{Reset, Load, Store, Access, Validate, BusRead, BusWrite, Edit, Flush}
+use Rattle.model.specs.declared.call.EditOperands.{EditOperands}
 use Rattle.model.specs.declared.call.EntryName.{EntryName}
 use Rattle.model.specs.declared.call.Reply.TheVariants.{Done, Edited, Flag, Value}
 use Rattle.model.specs.declared.registers.Register.{Register}
@@ -103,20 +104,20 @@ module _ (l : Layout) (laws : Lawful l) (w u : Writable) (r : Registers) (k j : 
       on First a = refl
       on Second a = rw (same_read w u m n same a, reached_second)
 
-  same_edit : (space level page v : ℕ) → SameOutcome w u (edit l space level page v (unit_of r k m) w).outcome (edit l space level page v (unit_of r j n) u).outcome
-  same_edit space level page v = on_name (named l space level page) refl
+  same_edit : (x : EditOperands) → SameOutcome w u (edit l x (unit_of r k m) w).outcome (edit l x (unit_of r j n) u).outcome
+  same_edit x = on_name (named l x) refl
     where
-      on_write : (a : ℕ) (o : WriteOutcome) → write_answer (n (dword a)) (u (dword a)) ≡ o → SameOutcome w u (rewritten a v (unit_of r k m) w).outcome (rewritten a v (unit_of r j n) u).outcome
-      on_write a (Ok z) e = rw (same_write w u m n same a, rewritten, e) (same_answered w u _ r _ _ (same_written w u m n same (dword a) v))
+      on_write : (a : ℕ) (o : WriteOutcome) → write_answer (n (dword a)) (u (dword a)) ≡ o → SameOutcome w u (rewritten a x.value (unit_of r k m) w).outcome (rewritten a x.value (unit_of r j n) u).outcome
+      on_write a (Ok z) e = rw (same_write w u m n same a, rewritten, e) (same_answered w u _ r _ _ (same_written w u m n same (dword a) x.value))
       on_write a (Err z) e = rw (same_write w u m n same a, rewritten, e) (same_answered w u _ r m n same)
 
-      on_reach : (x : EntryName) (o : Option ℕ) → reached l x r n ≡ o → SameOutcome w u (edit_named l x v (unit_of r k m) w).outcome (edit_named l x v (unit_of r j n) u).outcome
-      on_reach x None e = let d = same_reached x ∙ e in rw (d, e, edit_named) (same_answered w u _ r m n same)
-      on_reach x (Some a) e = let d = same_reached x ∙ e in rw (d, e, edit_named) (on_write a _ refl)
+      on_reach : (y : EntryName) (o : Option ℕ) → reached l y r n ≡ o → SameOutcome w u (edit_named l y x.value (unit_of r k m) w).outcome (edit_named l y x.value (unit_of r j n) u).outcome
+      on_reach y None e = let d = same_reached y ∙ e in rw (d, e, edit_named) (same_answered w u _ r m n same)
+      on_reach y (Some a) e = let d = same_reached y ∙ e in rw (d, e, edit_named) (on_write a _ refl)
 
-      on_name : (o : Option EntryName) → named l space level page ≡ o → SameOutcome w u (edit l space level page v (unit_of r k m) w).outcome (edit l space level page v (unit_of r j n) u).outcome
+      on_name : (o : Option EntryName) → named l x ≡ o → SameOutcome w u (edit l x (unit_of r k m) w).outcome (edit l x (unit_of r j n) u).outcome
       on_name None e = rw (e, edit) (same_answered w u _ r m n same)
-      on_name (Some x) e = rw (e, edit) (on_reach x _ refl)
+      on_name (Some y) e = rw (e, edit) (on_reach y _ refl)
 
   -- every call that is fair to both
   same_effect : (c : Call) (o p : List ℕ) → Fair l (run_of r k m o) c → Fair l (run_of r j n p) c → SameOutcome w u (effect l w c (run_of r k m o)).outcome (effect l u c (run_of r j n p)).outcome
@@ -127,7 +128,7 @@ module _ (l : Layout) (laws : Lawful l) (w u : Writable) (r : Registers) (k j : 
   same_effect (Validate kind address) o p x y = same_answering w u (reply Flag) _ _ (same_validate kind address x.0 y.0)
   same_effect (BusRead physical address) o p x y = same_answering w u (reply Value) _ _ (same_bus_read physical address)
   same_effect (BusWrite physical address mask v) o p x y = same_answering w u (reply (λ _. Done)) _ _ (same_bus_write physical address mask v)
-  same_effect (Edit space level page v) o p x y = same_answering w u (reply Edited) _ _ (same_edit space level page v)
+  same_effect (Edit z) o p x y = same_answering w u (reply Edited) _ _ (same_edit z)
   same_effect (Flush a) o p x y = let d = x.1 a refl in let e = y.1 a refl in rw (d, e, flush_open) (same_answered w u _ r m n same)
 
 -- the same of states whose registers are equal

@@ -7,6 +7,7 @@ use Rattle.physical.specs.Stores.{Values, Writable, dword, read_answer, write_an
 use Rattle.physical.specs.declared.MemoryError.{MemoryError}
 use Rattle.model.specs.declared.call.Call.{Call}
 use Rattle.model.specs.declared.call.Call.TheVariants.{Reset, Load, Store, Access, Validate, BusRead, BusWrite, Edit, Flush}
+use Rattle.model.specs.declared.call.EditOperands.{EditOperands}
 use Rattle.model.specs.declared.call.EntryName.{EntryName}
 use Rattle.model.specs.declared.call.Request.{Request}
 use Rattle.model.specs.declared.refusal.Abort.{Abort}
@@ -235,18 +236,18 @@ bus_write_rests physical address mask v s w = on (is_aligned physical) refl (is_
     on true b false c = rw (b, bus_write, c) (still s)
     on false b c _ = rw (b, bus_write) (still s)
 
-edit_rests : (l : Layout) (space level page v : ℕ) (s : State) (w : Writable) → RestsBy s (edit l space level page v s w)
-edit_rests l space level page v s w = on_name (named l space level page) refl
+edit_rests : (l : Layout) (x : EditOperands) (s : State) (w : Writable) → RestsBy s (edit l x s w)
+edit_rests l x s w = on_name (named l x) refl
   where
-    on_write : (a : ℕ) (x : Result (Unit {0}) MemoryError) → write_answer (s.values (dword a)) (w (dword a)) ≡ x → RestsBy s (rewritten a v s w)
+    on_write : (a : ℕ) (y : Result (Unit {0}) MemoryError) → write_answer (s.values (dword a)) (w (dword a)) ≡ y → RestsBy s (rewritten a x.value s w)
     on_write a (Ok _) e = rw (e, rewritten) (still s)
     on_write a (Err _) e = rw (e, rewritten) (still s)
 
-    on_reach : (n : EntryName) (o : Option ℕ) → reached l n s.registers s.values ≡ o → RestsBy s (edit_named l n v s w)
+    on_reach : (n : EntryName) (o : Option ℕ) → reached l n s.registers s.values ≡ o → RestsBy s (edit_named l n x.value s w)
     on_reach n None e = rw (e, edit_named) (still s)
     on_reach n (Some a) e = rw (e, edit_named) (on_write a _ refl)
 
-    on_name : (o : Option EntryName) → named l space level page ≡ o → RestsBy s (edit l space level page v s w)
+    on_name : (o : Option EntryName) → named l x ≡ o → RestsBy s (edit l x s w)
     on_name None e = rw (e, edit) (still s)
     on_name (Some n) e = rw (e, edit) (on_reach n _ refl)
 
@@ -263,5 +264,5 @@ does l laws w (Access mode kind address) s = moves (access_moves l laws w mode k
 does l laws w (Validate kind address) s = moves (validate_moves l kind address s.unit)
 does l laws w (BusRead physical address) s = moves (bus_read_moves l physical address s.unit)
 does l laws w (BusWrite physical address mask v) s = let r = bus_write_rests physical address mask v s.unit w in writes refl r.no_action r.same_base
-does l laws w (Edit space level page v) s = let r = edit_rests l space level page v s.unit w in writes refl r.no_action r.same_base
+does l laws w (Edit x) s = let r = edit_rests l x s.unit w in writes refl r.no_action r.same_base
 does l laws w (Flush a) s = moves (flush_moves l a s)

@@ -19,6 +19,7 @@ use Rattle.physical.specs.Stores.{Values, Writable, WriteOutcome, dword, read_an
 use Rattle.physical.specs.declared.MemoryError.{MemoryError}
 use Rattle.model.specs.declared.call.Call.{Call}
 use Rattle.model.specs.declared.call.Call.TheVariants.{Reset, Load, Store, Access, Validate, BusRead, BusWrite, Edit, Flush}
+use Rattle.model.specs.declared.call.EditOperands.{EditOperands}
 use Rattle.model.specs.declared.call.EntryName.{EntryName}
 use Rattle.model.specs.declared.call.Reply.TheVariants.{Done, Edited, Flag, Flushed, NotOpen, Translated, Value}
 use Rattle.model.specs.declared.call.Request.{Request}
@@ -267,22 +268,22 @@ bus_write_notes physical address mask v s w = on (is_aligned physical) refl (is_
     on true b false c = rw (b, bus_write, c) (of_none (Err BadMask) refl)
     on false b c _ = rw (b, bus_write) (of_none (Err MisalignedTransfer) refl)
 
-edit_notes : (l : Layout) (space level page v : ℕ) (s : State) (w : Writable) →
-    Notes (Edit space level page v) s.registers (reply Edited (edit l space level page v s w).outcome.answer) (edit l space level page v s w).outcome.registers
-edit_notes l space level page v s w = on_name (named l space level page) refl
+edit_notes : (l : Layout) (x : EditOperands) (s : State) (w : Writable) →
+    Notes (Edit x) s.registers (reply Edited (edit l x s w).outcome.answer) (edit l x s w).outcome.registers
+edit_notes l x s w = on_name (named l x) refl
   where
-    on_write : (a : ℕ) (x : WriteOutcome) → write_answer (s.values (dword a)) (w (dword a)) ≡ x →
-        Notes (Edit space level page v) s.registers (reply Edited (rewritten a v s w).outcome.answer) (rewritten a v s w).outcome.registers
+    on_write : (a : ℕ) (y : WriteOutcome) → write_answer (s.values (dword a)) (w (dword a)) ≡ y →
+        Notes (Edit x) s.registers (reply Edited (rewritten a x.value s w).outcome.answer) (rewritten a x.value s w).outcome.registers
     on_write a (Ok z) e = rw (e, rewritten) (of_none (Ok (Edited a)) refl)
     on_write a (Err z) e = rw (e, rewritten) (of_none (Err EntryNotWritten) refl)
 
     on_reach : (n : EntryName) (o : Option ℕ) → reached l n s.registers s.values ≡ o →
-        Notes (Edit space level page v) s.registers (reply Edited (edit_named l n v s w).outcome.answer) (edit_named l n v s w).outcome.registers
+        Notes (Edit x) s.registers (reply Edited (edit_named l n x.value s w).outcome.answer) (edit_named l n x.value s w).outcome.registers
     on_reach n None e = rw (e, edit_named) (of_none (Err EntryNotWritten) refl)
     on_reach n (Some a) e = rw (e, edit_named) (on_write a _ refl)
 
-    on_name : (o : Option EntryName) → named l space level page ≡ o →
-        Notes (Edit space level page v) s.registers (reply Edited (edit l space level page v s w).outcome.answer) (edit l space level page v s w).outcome.registers
+    on_name : (o : Option EntryName) → named l x ≡ o →
+        Notes (Edit x) s.registers (reply Edited (edit l x s w).outcome.answer) (edit l x s w).outcome.registers
     on_name None e = rw (e, edit) (of_none (Err BadEntryName) refl)
     on_name (Some n) e = rw (e, edit) (on_reach n _ refl)
 
@@ -301,5 +302,5 @@ register_notes l w s (Access mode kind address) h = access_notes l mode kind add
 register_notes l w s (Validate kind address) h = validate_notes l kind address s.unit
 register_notes l w s (BusRead physical address) h = bus_read_notes physical address s.unit
 register_notes l w s (BusWrite physical address mask v) h = bus_write_notes physical address mask v s.unit w
-register_notes l w s (Edit space level page v) h = edit_notes l space level page v s.unit w
+register_notes l w s (Edit x) h = edit_notes l x s.unit w
 register_notes l w s (Flush a) h = flush_notes a s

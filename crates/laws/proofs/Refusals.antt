@@ -8,6 +8,7 @@ use Rattle.entry.specs.declared.TableLevel.TheVariants.{First, Second}
 use Rattle.physical.specs.Stores.{Values, Writable, dword}
 use Rattle.model.specs.declared.call.Call.{Call}
 use Rattle.model.specs.declared.call.Call.TheVariants.{Reset, Load, Store, Access, Validate, BusRead, BusWrite, Edit, Flush}
+use Rattle.model.specs.declared.call.EditOperands.{EditOperands}
 use Rattle.model.specs.declared.call.Reply.TheVariants.{Edited}
 use Rattle.model.specs.declared.call.Request.{Request}
 use Rattle.model.specs.declared.refusal.Abort.{Abort}
@@ -98,37 +99,40 @@ access_alters_nothing l mode kind address s w h = on (access_read mode kind addr
 written_exactly : (a v : ℕ) (s : State) (w : Writable) → outright_number (answer_number (reply Edited (rewritten a v s w).outcome.answer)) ≡ cond (can_be_written s.values w a) 0 16
 written_exactly a v s w = grind (arith, nat_tests)
 
--- an edit whose name is on the list, by its level
-first_exactly : (l : Layout) (space page v : ℕ) (s : State) (w : Writable) →
-    outright_number (answer_number (reply Edited (edit_named l (record { space = space; level = First; page = page }) v s w).outcome.answer)) ≡ cond (entry_can_be_written l s.registers s.values w space 1 page) 0 16
-first_exactly l space page v s w = written_exactly (l.first_entry (base_of s.registers (tag_of s.registers space page)) page) v s w
-
-second_exactly : (l : Layout) (space page v : ℕ) (s : State) (w : Writable) →
-    outright_number (answer_number (reply Edited (edit_named l (record { space = space; level = Second; page = page }) v s w).outcome.answer)) ≡ cond (entry_can_be_written l s.registers s.values w space 2 page) 0 16
-second_exactly l space page v s w = on (s.values (dword (l.first_entry (base_of s.registers (tag_of s.registers space page)) page))) refl
+-- an edit in the second table whose name is on the list
+second_exactly : (l : Layout) (x : EditOperands) (s : State) (w : Writable) →
+    outright_number (answer_number (reply Edited (edit_named l (record { space = x.space; level = Second; page = x.page }) x.value s w).outcome.answer))
+    ≡ cond (entry_can_be_written l s.registers s.values w (record x { level = 2 })) 0 16
+second_exactly l x s w = on (s.values (dword a)) refl
   where
-    on_valid : (e : ℕ) → s.values (dword (l.first_entry (base_of s.registers (tag_of s.registers space page)) page)) ≡ Some e → (b : Bool) → l.valid e ≡ b →
-        outright_number (answer_number (reply Edited (edit_named l (record { space = space; level = Second; page = page }) v s w).outcome.answer)) ≡ cond (entry_can_be_written l s.registers s.values w space 2 page) 0 16
-    on_valid e h true b = rw (h, edit_named, reached_second, b) (written_exactly (l.second_entry (l.frame e) page) v s w)
+    a : ℕ
+    a = l.first_entry (base_of s.registers (tag_of s.registers x.space x.page)) x.page
+
+    Goal : Type 0
+    Goal =
+        outright_number (answer_number (reply Edited (edit_named l (record { space = x.space; level = Second; page = x.page }) x.value s w).outcome.answer))
+        ≡ cond (entry_can_be_written l s.registers s.values w (record x { level = 2 })) 0 16
+
+    on_valid : (e : ℕ) → s.values (dword a) ≡ Some e → (b : Bool) → l.valid e ≡ b → Goal
+    on_valid e h true b = rw (h, edit_named, reached_second, b) (written_exactly (l.second_entry (l.frame e) x.page) x.value s w)
     on_valid e h false b = rw (h, edit_named, reached_second, b)
 
-    on : (o : Option ℕ) → s.values (dword (l.first_entry (base_of s.registers (tag_of s.registers space page)) page)) ≡ o →
-        outright_number (answer_number (reply Edited (edit_named l (record { space = space; level = Second; page = page }) v s w).outcome.answer)) ≡ cond (entry_can_be_written l s.registers s.values w space 2 page) 0 16
+    on : (o : Option ℕ) → s.values (dword a) ≡ o → Goal
     on None h = rw (h, edit_named, reached_second)
     on (Some e) h = on_valid e h _ refl
 
-edit_exactly : (l : Layout) (space level page v : ℕ) (s : RunState) (w : Writable) → outright_number (answer_number (step l w (Edit space level page v) s).0) ≡ owed l w s (Edit space level page v)
-edit_exactly l space level page v s w = on_space (leb space 1) refl (ltb page l.page_count) refl
+edit_exactly : (l : Layout) (x : EditOperands) (s : RunState) (w : Writable) → outright_number (answer_number (step l w (Edit x) s).0) ≡ owed l w s (Edit x)
+edit_exactly l x s w = on (leb x.space 1) refl (ltb x.page l.page_count) refl
   where
-    on_level : leb space 1 ≡ true → ltb page l.page_count ≡ true → (c : Bool) → eqb level 1 ≡ c → (d : Bool) → eqb level 2 ≡ d → outright_number (answer_number (step l w (Edit space level page v) s).0) ≡ owed l w s (Edit space level page v)
-    on_level a b true c d _ = rw (eqb-true level 1 c, edit, a, b) (first_exactly l space page v s.unit w)
-    on_level a b false c true d = rw (eqb-true level 2 d, edit, a, b) (second_exactly l space page v s.unit w)
+    on_level : leb x.space 1 ≡ true → ltb x.page l.page_count ≡ true → (c : Bool) → eqb x.level 1 ≡ c → (d : Bool) → eqb x.level 2 ≡ d → outright_number (answer_number (step l w (Edit x) s).0) ≡ owed l w s (Edit x)
+    on_level a b true c d _ = rw (eqb-true x.level 1 c, edit, a, b) (written_exactly (l.first_entry (base_of s.unit.registers (tag_of s.unit.registers x.space x.page)) x.page) x.value s.unit w)
+    on_level a b false c true d = rw (eqb-true x.level 2 d, edit, a, b) (second_exactly l x s.unit w)
     on_level a b false c false d = grind (arith, nat_tests)
 
-    on_space : (x : Bool) → leb space 1 ≡ x → (y : Bool) → ltb page l.page_count ≡ y → outright_number (answer_number (step l w (Edit space level page v) s).0) ≡ owed l w s (Edit space level page v)
-    on_space true a true b = on_level a b _ refl _ refl
-    on_space true a false b = grind (arith, nat_tests)
-    on_space false a y b = grind (arith, nat_tests)
+    on : (a : Bool) → leb x.space 1 ≡ a → (b : Bool) → ltb x.page l.page_count ≡ b → outright_number (answer_number (step l w (Edit x) s).0) ≡ owed l w s (Edit x)
+    on true a true b = on_level a b _ refl _ refl
+    on true a false b = grind (arith, nat_tests)
+    on false a y b = grind (arith, nat_tests)
 
 exactly : (l : Layout) (w : Writable) (s : RunState) (c : Call) → outright_number (answer_number (step l w c s).0) ≡ owed l w s c
 exactly l w s Reset = refl
@@ -138,7 +142,7 @@ exactly l w s (Access mode kind address) = access_exactly l mode kind address s.
 exactly l w s (Validate kind address) = grind (arith, nat_tests)
 exactly l w s (BusRead physical address) = grind (arith, nat_tests)
 exactly l w s (BusWrite physical address mask v) = grind (arith, nat_tests)
-exactly l w s (Edit space level page v) = edit_exactly l space level page v s w
+exactly l w s (Edit x) = edit_exactly l x s w
 exactly l w s (Flush a) = grind (arith, nat_tests)
 
 nothing_altered : (l : Layout) (w : Writable) (s : RunState) (c : Call) → is_outright (answer_number (step l w c s).0) ≡ true → (step l w c s).1 ≡ s
@@ -149,7 +153,7 @@ nothing_altered l w s (Access mode kind address) h = access_alters_nothing l mod
 nothing_altered l w s (Validate kind address) h = grind (arith, nat_tests)
 nothing_altered l w s (BusRead physical address) h = grind (arith, nat_tests)
 nothing_altered l w s (BusWrite physical address mask v) h = grind (arith, nat_tests)
-nothing_altered l w s (Edit space level page v) h = grind (arith, nat_tests)
+nothing_altered l w s (Edit x) h = grind (arith, nat_tests)
 nothing_altered l w s (Flush a) h = grind (arith, nat_tests)
 
 pub outright_refusals : (l : Layout) → OutrightRefusals l

@@ -14,15 +14,9 @@ use Rattle.laws.specs.Transparency.{NoneStale}
 
 -- the tag that a call looks for, if any
 abbrev pub seeks : Layout → Registers → Call → Option Tag
-seeks l r Reset = None
-seeks l r (Load code v) = None
-seeks l r (Store code) = None
 seeks l r (Access mode kind address) = access_seeks l r mode kind address
 seeks l r (Validate kind address) = validation_seeks l r kind address
-seeks l r (BusRead physical address) = None
-seeks l r (BusWrite physical address mask v) = None
-seeks l r (Edit space level page v) = None
-seeks l r (Flush a) = None
+seeks l r _ = None
 
 -- the call c, made in s, looks for nothing of which a stale translation is kept
 abbrev pub SeeksNoneStale : Layout → RunState → Call → Type 0

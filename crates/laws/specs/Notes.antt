@@ -21,31 +21,25 @@ use Rattle.model.specs.Requests.{access_request, validation_request}
 -- 10
 abbrev pub is_breakpoint : Abort → Bool
 is_breakpoint Breakpoint = true
-is_breakpoint (InvalidEntry t a) = false
-is_breakpoint Protection = false
-is_breakpoint (EntryRefused t a e) = false
+is_breakpoint _ = false
 
 -- 11, 12 and 13
 abbrev pub is_translation_abort : Abort → Bool
-is_translation_abort Breakpoint = false
 is_translation_abort (InvalidEntry t a) = true
 is_translation_abort Protection = true
-is_translation_abort (EntryRefused t a e) = false
+is_translation_abort _ = false
 
 -- 14
 abbrev pub is_memory_abort : Abort → Bool
-is_memory_abort Breakpoint = false
-is_memory_abort (InvalidEntry t a) = false
-is_memory_abort Protection = false
 is_memory_abort (EntryRefused t a e) = true
+is_memory_abort _ = false
 
 -- TEX: 1, 2 and 3 for 11, 12 and 13; the others leave what it was
 abbrev pub tex_after : Abort → ℕ → ℕ
-tex_after Breakpoint tex = tex
 tex_after (InvalidEntry First a) tex = 1
 tex_after (InvalidEntry Second a) tex = 2
 tex_after Protection tex = 3
-tex_after (EntryRefused t a e) tex = tex
+tex_after _ tex = tex
 
 -- the fields of MSR, before and after an abort
 pub record AbortStatus (x : Abort) (q : Request) (before behind : ℕ) : Type 0 where
@@ -76,26 +70,14 @@ pub record BusErrorNotes (address : ℕ) (r r' : Registers) : Type 0 where
 
 -- the request of an access or a validation, and the address that a bus transfer serves
 abbrev pub request_of : Call → Result Request Refusal
-request_of Reset = Err BadAccess
-request_of (Load code v) = Err BadAccess
-request_of (Store code) = Err BadAccess
 request_of (Access mode kind address) = access_request mode kind address
 request_of (Validate kind address) = validation_request kind address
-request_of (BusRead physical address) = Err BadAccess
-request_of (BusWrite physical address mask v) = Err BadAccess
-request_of (Edit space level page v) = Err BadAccess
-request_of (Flush a) = Err BadAccess
+request_of _ = Err BadAccess
 
 abbrev pub served_address : Call → Option ℕ
-served_address Reset = None
-served_address (Load code v) = None
-served_address (Store code) = None
-served_address (Access mode kind address) = None
-served_address (Validate kind address) = None
 served_address (BusRead physical address) = Some address
 served_address (BusWrite physical address mask v) = Some address
-served_address (Edit space level page v) = None
-served_address (Flush a) = None
+served_address _ = None
 
 -- 9 to 14 are noted in the registers
 abbrev pub is_noted : Answer → Bool
@@ -111,13 +93,7 @@ pub data Notes (c : Call) (r : Registers) : Answer → Registers → Type 0 wher
 abbrev pub sets_registers : Call → Bool
 sets_registers Reset = true
 sets_registers (Load code v) = true
-sets_registers (Store code) = false
-sets_registers (Access mode kind address) = false
-sets_registers (Validate kind address) = false
-sets_registers (BusRead physical address) = false
-sets_registers (BusWrite physical address mask v) = false
-sets_registers (Edit space level page v) = false
-sets_registers (Flush a) = false
+sets_registers _ = false
 
 abbrev pub RegisterNotes : Layout → Type 0
 RegisterNotes l = (w : Writable) (s : RunState) (c : Call) → sets_registers c ≡ false → Notes c s.unit.registers (step l w c s).0 (step l w c s).1.unit.registers

@@ -4,6 +4,7 @@ use Rattle.entry.specs.Layout.{Layout}
 use Rattle.physical.specs.Stores.{Values, Writable, dword}
 use Rattle.model.specs.declared.call.Call.{Call}
 use Rattle.model.specs.declared.call.Call.TheVariants.{Reset, Load, Store, Access, Validate, BusRead, BusWrite, Edit, Flush}
+use Rattle.model.specs.declared.call.EditOperands.{EditOperands}
 use Rattle.model.specs.declared.registers.Registers.{Registers}
 use Rattle.model.specs.Calls.{RunState, answer_number, step}
 use Rattle.model.specs.Tlb.{base_of, tag_of}
@@ -32,11 +33,11 @@ can_be_written m w a = is_some (m (dword a)) && w (dword a)
 
 -- whether an entry can be written: in a first table, where it lies; in a second, if the entry that leads to it is present
 -- and valid
-abbrev pub entry_can_be_written : Layout → Registers → Values → Writable → ℕ → ℕ → ℕ → Bool
-entry_can_be_written l r m w space level page =
-    let a = l.first_entry (base_of r (tag_of r space page)) page in
-    cond (level == 1) (can_be_written m w a)
-    (elim (m (dword a)) [ None ↦ false | Some e ↦ l.valid e && can_be_written m w (l.second_entry (l.frame e) page) ])
+abbrev pub entry_can_be_written : Layout → Registers → Values → Writable → EditOperands → Bool
+entry_can_be_written l r m w x =
+    let a = l.first_entry (base_of r (tag_of r x.space x.page)) x.page in
+    cond (x.level == 1) (can_be_written m w a)
+    (elim (m (dword a)) [ None ↦ false | Some e ↦ l.valid e && can_be_written m w (l.second_entry (l.frame e) x.page) ])
 
 -- the number among these that a call is owed, by its operands, and an edit by the tables too; 0 where it is owed none
 abbrev pub owed : Layout → Writable → RunState → Call → ℕ
@@ -47,9 +48,9 @@ owed l w s (Access mode kind address) = cond (nat_le mode 1 && nat_le kind 2) 0 
 owed l w s (Validate kind address) = cond (nat_le kind 1) 0 6
 owed l w s (BusRead physical address) = cond (physical % 4 == 0) 0 7
 owed l w s (BusWrite physical address mask v) = cond (physical % 4 == 0) (cond (nat_le mask 15) 0 8) 7
-owed l w s (Edit space level page v) =
-    cond (nat_le space 1 && ((level == 1 || level == 2) && nat_lt page l.page_count))
-    (cond (entry_can_be_written l s.unit.registers s.unit.values w space level page) 0 16)
+owed l w s (Edit x) =
+    cond (nat_le x.space 1 && ((x.level == 1 || x.level == 2) && nat_lt x.page l.page_count))
+    (cond (entry_can_be_written l s.unit.registers s.unit.values w x) 0 16)
     15
 owed l w s (Flush a) = 0
 

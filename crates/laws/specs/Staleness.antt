@@ -23,15 +23,9 @@ pub record Leaves (l : Layout) (w : Writable) (s : RunState) (c : Call) (i : ℕ
 
 -- bus writes and edits
 abbrev pub is_writer : Call → Bool
-is_writer Reset = false
-is_writer (Load code v) = false
-is_writer (Store code) = false
-is_writer (Access mode kind address) = false
-is_writer (Validate kind address) = false
-is_writer (BusRead physical address) = false
 is_writer (BusWrite physical address mask v) = true
-is_writer (Edit space level page v) = true
-is_writer (Flush a) = false
+is_writer (Edit x) = true
+is_writer _ = false
 
 -- the call c, made in s, makes another double-word of the one at that address
 abbrev pub Alters : Layout → Writable → RunState → Call → ℕ → Type 0

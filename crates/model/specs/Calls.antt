@@ -68,7 +68,7 @@ effect l w (Access mode kind address) s = answering (reply translation_reply) (a
 effect l w (Validate kind address) s = answering (reply Flag) (validate l kind address s.unit)
 effect l w (BusRead physical address) s = answering (reply Value) (bus_read physical address s.unit)
 effect l w (BusWrite physical address mask v) s = answering (reply (λ _. Done)) (bus_write physical address mask v s.unit w)
-effect l w (Edit space level page v) s = answering (reply Edited) (edit l space level page v s.unit w)
+effect l w (Edit x) s = answering (reply Edited) (edit l x s.unit w)
 effect l w (Flush a) s = flush_open a s
 
 -- the token that an answer hands out, by its address: edits alone do
@@ -82,15 +82,9 @@ opened (Some a) tokens = a ∷ tokens
 
 -- the tokens that are open after a call: an edit opens one, a flush spends one
 abbrev pub tokens_after : Call → Answer → List ℕ → List ℕ
-tokens_after Reset x tokens = tokens
-tokens_after (Load code v) x tokens = tokens
-tokens_after (Store code) x tokens = tokens
-tokens_after (Access mode kind address) x tokens = tokens
-tokens_after (Validate kind address) x tokens = tokens
-tokens_after (BusRead physical address) x tokens = tokens
-tokens_after (BusWrite physical address mask v) x tokens = tokens
-tokens_after (Edit space level page v) x tokens = opened (token_of x) tokens
+tokens_after (Edit _) x tokens = opened (token_of x) tokens
 tokens_after (Flush a) x tokens = spent a tokens
+tokens_after _ x tokens = tokens
 
 abbrev pub step : Layout → Writable → Call → RunState → Answer × RunState
 step l w c s =

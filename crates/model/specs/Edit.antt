@@ -5,6 +5,7 @@ use Rattle.entry.specs.Layout.{Layout}
 use Rattle.entry.specs.declared.TableLevel.{TableLevel}
 use Rattle.entry.specs.declared.TableLevel.TheVariants.{First, Second}
 use Rattle.physical.specs.Stores.{Values, Writable, dword, write_answer, written}
+use Rattle.model.specs.declared.call.EditOperands.{EditOperands}
 use Rattle.model.specs.declared.call.EntryName.{EntryName}
 use Rattle.model.specs.declared.refusal.Refusal.{Refusal}
 use Rattle.model.specs.declared.refusal.Refusal.TheVariants.{BadEntryName, EntryNotWritten}
@@ -16,11 +17,11 @@ use Rattle.model.specs.Tlb.{base_of, drop, read_from, rest, tag_of}
 abbrev pub named_level : ℕ → Option TableLevel
 named_level n = cond (n == 1) (Some First) (cond (n == 2) (Some Second) None)
 
-abbrev pub named : Layout → ℕ → ℕ → ℕ → Option EntryName
-named l space level page =
-    elim (named_level level) [
+abbrev pub named : Layout → EditOperands → Option EntryName
+named l x =
+    elim (named_level x.level) [
       | None ↦ None
-      | Some t ↦ cond (nat_le space 1) (cond (nat_lt page l.page_count) (Some (record { space = space; level = t; page = page })) None) None
+      | Some t ↦ cond (nat_le x.space 1) (cond (nat_lt x.page l.page_count) (Some (record { space = x.space; level = t; page = x.page })) None) None
     ]
 
 -- where the entry lies: as a walk goes, marking nothing, and asking only V of the first entry on the way to the second
@@ -53,11 +54,11 @@ edit_named l n v s w =
       | Some a ↦ rewritten a v s w
     ]
 
-abbrev pub edit : Layout → ℕ → ℕ → ℕ → ℕ → State → Writable → Effect (Result ℕ Refusal)
-edit l space level page v s w =
-    elim (named l space level page) [
+abbrev pub edit : Layout → EditOperands → State → Writable → Effect (Result ℕ Refusal)
+edit l x s w =
+    elim (named l x) [
       | None ↦ only_answers (Err BadEntryName) s
-      | Some n ↦ edit_named l n v s w
+      | Some n ↦ edit_named l n x.value s w
     ]
 
 -- the flush of a token: what was read from its address, as either entry, is dropped

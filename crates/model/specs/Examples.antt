@@ -69,7 +69,7 @@ write_calls =
     Load 12 0x1000 ∷ Load 9 3 ∷ BusWrite 0x1004 0 15 0x2007 ∷ BusWrite 0x200c 0 15 0x5007
     ∷ Access 1 0 0x00403004 ∷ BusRead 0x200c 0
     ∷ Access 1 1 0x00403004 ∷ BusRead 0x200c 0 ∷ Access 1 1 0x00403008
-    ∷ Edit 0 2 0x403 0x5087 ∷ Flush 0x200c
+    ∷ Edit (record { space = 0; level = 2; page = 0x403; value = 0x5087 }) ∷ Flush 0x200c
     ∷ Access 1 1 0x00403004 ∷ BusRead 0x200c 0 ∷ []
 
 abbrev pub write_end : RunState

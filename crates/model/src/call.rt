@@ -19,7 +19,16 @@ pub struct EntryName {
     pub page: u32,
 }
 
-// One call, with its operands as numbers; any number is accepted.
+// What an edit is asked to do: which entry, and its new value.
+#[derive(Clone, Copy, PartialEq, Eq, Debug)]
+pub struct EditOperands {
+    pub space: u8,
+    pub level: u8,
+    pub page: u32,
+    pub value: u32,
+}
+
+// One call. Operands are numbers of 8 or 32 bits, as a caller writes them, and any number is accepted.
 #[derive(Clone, Copy, PartialEq, Eq, Debug)]
 pub enum Call {
     Reset,
@@ -49,12 +58,7 @@ pub enum Call {
         mask: u8,
         value: u32,
     },
-    Edit {
-        space: u8,
-        level: u8,
-        page: u32,
-        value: u32,
-    },
+    Edit(EditOperands),
     // The flush of a token, known by the address that it carries.
     Flush {
         address: u32,
@@ -65,12 +69,7 @@ pub enum Call {
 #[derive(Clone, Copy, PartialEq, Eq, Debug)]
 pub enum Command {
     One(Call),
-    EditThenFlush {
-        space: u8,
-        level: u8,
-        page: u32,
-        value: u32,
-    },
+    EditThenFlush(EditOperands),
 }
 
 // What a call that is not refused answers.
