@@ -2,13 +2,14 @@
 use Rattle.std.proofs.Common.{◌≡◌, ℕ, ◌<◌, ◌≤◌, min, Bool, true, false, not, Some, None, Option, sym, refl, ap, ◌∙◌, ap₂, arith}
 use Rattle.std.proofs.lemmas.Bool.{true≢false}
 use Rattle.std.proofs.lemmas.Bool.Decides.{nat_tests}
+use Rattle.std.specs.Cmp.{booleans_Decides}
 use Rattle.entry.specs.Layout.{Layout, Lawful}
 use Rattle.entry.specs.declared.TableLevel.TheVariants.{First, Second}
 use Rattle.physical.specs.Stores.{Values, dword}
 use Rattle.model.specs.declared.registers.Registers.{Registers}
 use Rattle.model.specs.declared.translation.Tag.{Tag}
 use Rattle.model.specs.declared.translation.Translation.{Translation}
-use Rattle.model.specs.Currency.{current, found_now, says_as, same_flag, used_entry}
+use Rattle.model.specs.Currency.{current, found_now, says_as, used_entry}
 use Rattle.model.specs.Tlb.{base_of}
 use Rattle.model.specs.Walk.{found}
 use Rattle.laws.proofs.Marking.{Grown, Later, grown_trans, marked_valid, marked_referenced}
@@ -50,16 +51,6 @@ used_view l a m = on (m (dword a)) refl
 pub used_is : (l : Layout) (a : ℕ) (m : Values) (e : ℕ) → Used l a m e → used_entry l a m ≡ Some e
 used_is l a m e u = rw (u.reads, used_entry, u.valid, u.referenced)
 
-same_flags : (b c : Bool) → same_flag b c ≡ true → b ≡ c
-same_flags true true h = refl
-same_flags true false h = sym h
-same_flags false true h = h
-same_flags false false h = refl
-
-flags_same : (b c : Bool) → b ≡ c → same_flag b c ≡ true
-flags_same true c h = sym h
-flags_same false c h = ap not (sym h)
-
 -- what `says_as` tells
 record Says (t n : Translation) : Type 0 where
   protection : t.protection ≡ n.protection
@@ -71,7 +62,7 @@ says : (t n : Translation) → says_as t n ≡ true → Says t n
 says t n h = record {
   protection = grind (arith, nat_tests);
   frame = grind (arith, nat_tests);
-  inhibit = same_flags t.inhibit n.inhibit (grind (arith, nat_tests));
+  inhibit = (booleans_Decides t.inhibit n.inhibit).0 (grind (arith, nat_tests));
   modified = λ d p. grind (arith, nat_tests);
 }
 
@@ -79,7 +70,7 @@ said : (t n : Translation) → Says t n → says_as t n ≡ true
 said t n h =
     let p = h.protection in
     let f = h.frame in
-    let i = flags_same t.inhibit n.inhibit h.inhibit in
+    let i = (booleans_Decides t.inhibit n.inhibit).1 h.inhibit in
     let m = h.modified in
     grind (arith, nat_tests)
 

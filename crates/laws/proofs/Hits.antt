@@ -14,7 +14,7 @@ use Rattle.model.specs.declared.registers.Registers.{Registers}
 use Rattle.model.specs.declared.translation.Hit.{Hit}
 use Rattle.model.specs.declared.translation.Tag.{Tag}
 use Rattle.model.specs.declared.translation.Translation.{Translation}
-use Rattle.model.specs.Access.{Accessed, access, access_kept, access_sought, access_through, uncached_access, uncached_through, walk_outcome, walked}
+use Rattle.model.specs.Access.{Accessed, access, access_kept, access_sought, access_through, needs_mark, uncached_access, uncached_through, walk_outcome, walked}
 use Rattle.model.specs.Requests.{Gate, stopped, untranslated, looking, access_gate, access_seeks, level_of, marks_modified, seeks_at, sought, validation_gate, validation_seeks}
 use Rattle.model.specs.States.{Outcome, State, answered}
 use Rattle.model.specs.Tlb.{Holds, base_of, find}
@@ -119,13 +119,13 @@ module _ (l : Layout) (laws : Lawful l) (w : Writable) (s : State) (q : Request)
       (ap (λ p. permits p (level_of s.registers q)) (sym c.protection) ∙ b)
 
   -- a kept translation that serves a marking kind is modified, and so is the entry
-  is_modified : permits h.translation.protection (level_of s.registers q) ≡ true → (not (marks_modified q.kind) || h.translation.modified) ≡ true → marks_modified q.kind ≡ true → l.modified Second c.second ≡ true
+  is_modified : permits h.translation.protection (level_of s.registers q) ≡ true → needs_mark q h.translation ≡ false → marks_modified q.kind ≡ true → l.modified Second c.second ≡ true
   is_modified b d marks =
       let kept : h.translation.modified ≡ true = grind (arith, nat_tests) in
       let level = marking_level s.registers q marks in
       c.modified kept (grind (arith, nat_tests))
 
-  finds : permits h.translation.protection (level_of s.registers q) ≡ true → (not (marks_modified q.kind) || h.translation.modified) ≡ true →
+  finds : permits h.translation.protection (level_of s.registers q) ≡ true → needs_mark q h.translation ≡ false →
       walk l (level_of s.registers q) (marks_modified q.kind) h.translation.tag (base_of s.registers h.translation.tag) s.values w
       ≡ (Ok (found l h.translation.tag (l.first_entry (base_of s.registers h.translation.tag) h.translation.tag.page) c.first (l.second_entry (l.frame c.first) h.translation.tag.page) c.second), s.values)
   finds b d =
@@ -133,13 +133,13 @@ module _ (l : Layout) (laws : Lawful l) (w : Writable) (s : State) (q : Request)
       (ap (λ p. permits p (level_of s.registers q)) (sym c.protection) ∙ b) (is_modified b d)
 
   pub kept_same : (access_kept l q h s w).outcome ≡ walk_outcome l q s.registers (walked l q s.registers s.values w)
-  kept_same = on (permits h.translation.protection (level_of s.registers q)) refl (not (marks_modified q.kind) || h.translation.modified) refl
+  kept_same = on (permits h.translation.protection (level_of s.registers q)) refl (needs_mark q h.translation) refl
     where
-      on : (b : Bool) → permits h.translation.protection (level_of s.registers q) ≡ b → (d : Bool) → (not (marks_modified q.kind) || h.translation.modified) ≡ d →
+      on : (b : Bool) → permits h.translation.protection (level_of s.registers q) ≡ b → (d : Bool) → needs_mark q h.translation ≡ d →
           (access_kept l q h s w).outcome ≡ walk_outcome l q s.registers (walked l q s.registers s.values w)
       on false b d _ = rw (b, access_kept) (sym (by_tag _ (ap (walk_outcome l q s.registers) (barred b))))
-      on true b false d = rw (b, access_kept, d) refl
-      on true b true d =
+      on true b true d = rw (b, access_kept, d) refl
+      on true b false d =
           rw (b, access_kept, d)
           (sym (by_tag _ (ap (walk_outcome l q s.registers) (finds b d)
           ∙ ap₂ (λ f i. answered (Ok (l.physical f (l.offset q.address), i)) s.registers s.values) (sym c.frame) (sym c.inhibit))))

@@ -135,7 +135,7 @@ module _ (w u : Writable) where
 
       on : (o : Option ℕ) → n (dword (l.first_entry base tag.page)) ≡ o → examine l level tag base m ≡ examine l level tag base n
       on None e = rw (same_read m n same (l.first_entry base tag.page), examine, e)
-      on (Some f) e = rw (same_read m n same (l.first_entry base tag.page), examine, e) (ap (λ x. cond (permits (l.protection f) level) (cond (l.valid f) x (Err (InvalidEntry First (l.first_entry base tag.page)))) (Ok true)) (second (l.second_entry (l.frame f) tag.page)))
+      on (Some f) e = rw (same_read m n same (l.first_entry base tag.page), examine, e, second (l.second_entry (l.frame f) tag.page))
 
   pub same_uncached_validate : (l : Layout) (kind address : ℕ) (r : Registers) (m n : Values) → SameMemory m w n u → SameOutcome w u (uncached_validate l kind address r m) (uncached_validate l kind address r n)
   same_uncached_validate l kind address r m n same = on (validation_gate r kind address)

@@ -19,7 +19,7 @@ use Rattle.model.specs.declared.registers.Registers.{Registers}
 use Rattle.model.specs.declared.translation.Hit.{Hit}
 use Rattle.model.specs.declared.translation.Tag.{Tag}
 use Rattle.model.specs.declared.translation.Translation.{Translation}
-use Rattle.model.specs.Access.{access, access_kept, access_sought, access_through, access_walking, walk_action, walk_outcome}
+use Rattle.model.specs.Access.{access, access_kept, access_sought, access_through, access_walking, needs_mark, walk_action, walk_outcome}
 use Rattle.model.specs.Bus.{bus_read, bus_write, is_aligned, is_mask, merge_transferred, put_transferred, transferred}
 use Rattle.model.specs.Calls.{Answer, RunState, effect, flush_open, is_open}
 use Rattle.model.specs.Edit.{edit, edit_named, named, reached, rewritten}
@@ -118,11 +118,11 @@ module _ (l : Layout) (laws : Lawful l) (w : Writable) where
       ]
 
   kept_moves : (q : Request) (h : Hit) (s : State) → MovesBy l s (access_kept l q h s w)
-  kept_moves q h s = on (permits h.translation.protection (level_of s.registers q)) refl (not (marks_modified q.kind) || h.translation.modified) refl
+  kept_moves q h s = on (permits h.translation.protection (level_of s.registers q)) refl (needs_mark q h.translation) refl
     where
-      on : (b : Bool) → permits h.translation.protection (level_of s.registers q) ≡ b → (c : Bool) → (not (marks_modified q.kind) || h.translation.modified) ≡ c → MovesBy l s (access_kept l q h s w)
-      on true b true c = rw (b, access_kept, c) (marks_only s.registers s.values (hit h) (grown_refl l s.values) (λ t _ _. refl) (λ z. z))
-      on true b false c = rw (b, access_kept, c) (walking_moves q s)
+      on : (b : Bool) → permits h.translation.protection (level_of s.registers q) ≡ b → (c : Bool) → needs_mark q h.translation ≡ c → MovesBy l s (access_kept l q h s w)
+      on true b false c = rw (b, access_kept, c) (marks_only s.registers s.values (hit h) (grown_refl l s.values) (λ t _ _. refl) (λ z. z))
+      on true b true c = rw (b, access_kept, c) (walking_moves q s)
       on false b c _ = rw (b, access_kept) (marks_only (noted Protection q s.registers) s.values rest (grown_refl l s.values) (λ t _ _. refl) (λ z. z))
 
   sought_moves : (q : Request) (s : State) → MovesBy l s (access_sought l q s w)

@@ -30,7 +30,7 @@ use Rattle.model.specs.declared.refusal.Refusal.TheVariants.{Aborted, BadAccess,
 use Rattle.model.specs.declared.registers.Registers.{Registers}
 use Rattle.model.specs.declared.translation.Hit.{Hit}
 use Rattle.model.specs.declared.translation.Translation.{Translation}
-use Rattle.model.specs.Access.{Accessed, access, access_kept, access_sought, walk_outcome, walked}
+use Rattle.model.specs.Access.{Accessed, access, access_kept, access_sought, needs_mark, walk_outcome, walked}
 use Rattle.model.specs.Bus.{bus_read, bus_write, is_aligned, is_mask, merge_transferred, put_transferred, transferred}
 use Rattle.model.specs.Calls.{RunState, flush_open, is_open, reply, translation_reply}
 use Rattle.model.specs.Edit.{edit, edit_named, named, reached, rewritten}
@@ -174,11 +174,11 @@ walk_ends l q r (Ok t, m) = done _
 walk_ends l q r (Err x, m) = aborts x
 
 kept_ends : (l : Layout) (q : Request) (h : Hit) (s : State) (w : Writable) → EndsBy q s.registers (access_kept l q h s w).outcome
-kept_ends l q h s w = on (permits h.translation.protection (level_of s.registers q)) refl (not (marks_modified q.kind) || h.translation.modified) refl
+kept_ends l q h s w = on (permits h.translation.protection (level_of s.registers q)) refl (needs_mark q h.translation) refl
   where
-    on : (b : Bool) → permits h.translation.protection (level_of s.registers q) ≡ b → (c : Bool) → (not (marks_modified q.kind) || h.translation.modified) ≡ c → EndsBy q s.registers (access_kept l q h s w).outcome
-    on true b true c = rw (b, access_kept, c) (done _)
-    on true b false c = rw (b, access_kept, c) (walk_ends l q s.registers (walked l q s.registers s.values w))
+    on : (b : Bool) → permits h.translation.protection (level_of s.registers q) ≡ b → (c : Bool) → needs_mark q h.translation ≡ c → EndsBy q s.registers (access_kept l q h s w).outcome
+    on true b false c = rw (b, access_kept, c) (done _)
+    on true b true c = rw (b, access_kept, c) (walk_ends l q s.registers (walked l q s.registers s.values w))
     on false b c _ = rw (b, access_kept) (aborts Protection)
 
 sought_ends : (l : Layout) (q : Request) (s : State) (w : Writable) → EndsBy q s.registers (access_sought l q s w).outcome

@@ -17,7 +17,7 @@ use Rattle.model.specs.declared.registers.Registers.{Registers}
 use Rattle.model.specs.declared.translation.Hit.{Hit}
 use Rattle.model.specs.declared.translation.Tag.{Tag}
 use Rattle.model.specs.declared.translation.Translation.{Translation}
-use Rattle.model.specs.Access.{access_kept, access_sought, access_through, physical_of, uncached_through, walk_outcome, walked}
+use Rattle.model.specs.Access.{access_kept, access_sought, access_through, needs_mark, physical_of, uncached_through, walk_outcome, walked}
 use Rattle.model.specs.Requests.{looking, access_gate, access_seeks, level_of, marks_modified, seeks_at, sought, translate_gate, validation_gate, validation_seeks}
 use Rattle.model.specs.States.{State, answered}
 use Rattle.model.specs.Tlb.{base_of, find}
@@ -143,13 +143,13 @@ module _ (l : Layout) (laws : Lawful l) (frames : DistinctFrames l) (w : Writabl
     level_here kind = ap (λ o. access_level User o kind) p.overrides
 
     -- what is kept serves
-    served : (kind : AccessKind) → permits h.translation.protection (level_of r (asks kind)) ≡ true → (not (marks_modified kind) || h.translation.modified) ≡ true →
+    served : (kind : AccessKind) → permits h.translation.protection (level_of r (asks kind)) ≡ true → needs_mark (asks kind) h.translation ≡ false →
         (access_sought l (asks kind) (under p.setting s) w).outcome ≡ answered (Ok (physical_of l h.translation address)) r s.values
     served kind b d = rw (found_here kind, access_sought, b, access_kept, d)
 
     -- a read under this setting, and a write
     accessed : (number : ℕ) (kind : AccessKind) → access_gate r 1 number address ≡ looking (asks kind) →
-        permits h.translation.protection (level_of r (asks kind)) ≡ true → (not (marks_modified kind) || h.translation.modified) ≡ true →
+        permits h.translation.protection (level_of r (asks kind)) ≡ true → needs_mark (asks kind) h.translation ≡ false →
         SameOutcome w w (answered (Ok (physical_of l h.translation address)) r s.values) (walk_outcome l (asks kind) r (walked l (asks kind) r s.values w))
     accessed number kind gate b d =
         let seeks : access_seeks l r 1 number address ≡ Some tag = ap (seeks_at l r) gate ∙ ap Some (sought_here kind) in
@@ -159,7 +159,7 @@ module _ (l : Layout) (laws : Lawful l) (frames : DistinctFrames l) (w : Writabl
         subst (λ x. SameOutcome w w x (walk_outcome l (asks kind) r (walked l (asks kind) r s.values w))) (served kind b d) looked
 
     accessed_ended : (number : ℕ) (kind : AccessKind) → access_gate r 1 number address ≡ looking (asks kind) →
-        permits h.translation.protection (level_of r (asks kind)) ≡ true → (not (marks_modified kind) || h.translation.modified) ≡ true →
+        permits h.translation.protection (level_of r (asks kind)) ≡ true → needs_mark (asks kind) h.translation ≡ false →
         Ended l (level_of r (asks kind)) (marks_modified kind) tag (base_of s.registers tag) s.values h.translation.frame h.translation.inhibit address
     accessed_ended number kind gate b d =
         subst (λ g. Ended l (level_of r (asks kind)) (marks_modified kind) g (base_of r g) s.values h.translation.frame h.translation.inhibit address) (sought_here kind)
@@ -208,7 +208,7 @@ module _ (l : Layout) (laws : Lawful l) (frames : DistinctFrames l) (w : Writabl
         frame = framed ∙ frames size.entry n.second address (ap (λ x. l.physical x (l.offset address)) (sym framed) ∙ sym n.placed);
         inhibit = sym n.inhibits;
         modified = λ d above.
-            let y = accessed_ended true over 1 Write (write_gate true over) (rw (level_here true over Write) (one_permits h.translation.protection above)) d in
+            let y = accessed_ended true over 1 Write (write_gate true over) (rw (level_here true over Write) (one_permits h.translation.protection above)) (ap not d) in
             let first : y.first ≡ n.first = same_entry y.first n.first _ y.first_used.reads n.first_used.reads in
             let reads = subst (λ z. s.values (dword (l.second_entry (l.frame z) tag.page)) ≡ Some y.second) first y.second_used.reads in
             let second : y.second ≡ n.second = same_entry y.second n.second _ reads n.second_used.reads in

@@ -17,7 +17,7 @@ use Rattle.model.specs.declared.refusal.Refusal.TheVariants.{BadAccess}
 use Rattle.model.specs.declared.registers.Registers.{Registers}
 use Rattle.model.specs.declared.translation.Hit.{Hit}
 use Rattle.model.specs.declared.translation.Translation.{Translation}
-use Rattle.model.specs.Access.{access, access_kept, access_sought, walk_outcome, walked}
+use Rattle.model.specs.Access.{access, access_kept, access_sought, needs_mark, walk_outcome, walked}
 use Rattle.model.specs.Calls.{RunState, answer_number, reply, step, translation_reply}
 use Rattle.model.specs.Edit.{edit, edit_named, reached_second, rewritten}
 use Rattle.model.specs.Refusals.{abort_report}
@@ -40,12 +40,12 @@ walk_mild l q r (Ok t, m) = refl
 walk_mild l q r (Err x, m) = abort_mild x
 
 kept_mild : (l : Layout) (q : Request) (h : Hit) (s : State) (w : Writable) → is_outright (answer_number (reply translation_reply (access_kept l q h s w).outcome.answer)) ≡ false
-kept_mild l q h s w = on (permits h.translation.protection (level_of s.registers q)) refl (not (marks_modified q.kind) || h.translation.modified) refl
+kept_mild l q h s w = on (permits h.translation.protection (level_of s.registers q)) refl (needs_mark q h.translation) refl
   where
-    on : (b : Bool) → permits h.translation.protection (level_of s.registers q) ≡ b → (c : Bool) → (not (marks_modified q.kind) || h.translation.modified) ≡ c →
+    on : (b : Bool) → permits h.translation.protection (level_of s.registers q) ≡ b → (c : Bool) → needs_mark q h.translation ≡ c →
         is_outright (answer_number (reply translation_reply (access_kept l q h s w).outcome.answer)) ≡ false
-    on true b true c = rw (b, access_kept, c)
-    on true b false c = rw (b, access_kept, c) (walk_mild l q s.registers (walked l q s.registers s.values w))
+    on true b false c = rw (b, access_kept, c)
+    on true b true c = rw (b, access_kept, c) (walk_mild l q s.registers (walked l q s.registers s.values w))
     on false b c _ = rw (b, access_kept)
 
 sought_mild : (l : Layout) (q : Request) (s : State) (w : Writable) → is_outright (answer_number (reply translation_reply (access_sought l q s w).outcome.answer)) ≡ false

@@ -1,5 +1,5 @@
 -- What an abort and a bus error leave in the registers, field by field.
-use Rattle.std.specs.Prelude.{◌≡◌, ℕ, Bool, true, false, cond, ◌&&◌, ◌||◌, Some, None, Ok, Err, Option, Result, nat_le}
+use Rattle.std.specs.Prelude.{◌≡◌, ℕ, Bool, true, false, ◌&&◌, ◌||◌, Some, None, Ok, Err, Option, Result, if◌then◌else◌, nat_le}
 use Rattle.entry.specs.Access.{is_user}
 use Rattle.entry.specs.Bits.{field, flag}
 use Rattle.entry.specs.Layout.{Layout}
@@ -55,9 +55,9 @@ pub record AbortStatus (x : Abort) (q : Request) (before behind : ℕ) : Type 0 
 -- an abort of a request: MSR as above, the address in one register, and all other registers as they were
 pub record AbortNotes (x : Abort) (q : Request) (r r' : Registers) : Type 0 where
   pub status : AbortStatus x q r.msr r'.msr
-  pub bdr : r'.bdr ≡ cond (is_breakpoint x) q.address r.bdr
-  pub tear : r'.tear ≡ cond (is_translation_abort x) q.address r.tear
-  pub bear : r'.bear ≡ cond (is_memory_abort x) q.address r.bear
+  pub bdr : r'.bdr ≡ (if is_breakpoint x then q.address else r.bdr)
+  pub tear : r'.tear ≡ (if is_translation_abort x then q.address else r.tear)
+  pub bear : r'.bear ≡ (if is_memory_abort x then q.address else r.bear)
   pub others : (r'.bar ≡ r.bar) × (r'.bmr ≡ r.bmr) × (r'.mcr ≡ r.mcr) × (r'.ptb0 ≡ r.ptb0) × (r'.ptb1 ≡ r.ptb1)
 
 -- a bus error: CE is set, BEAR holds the address that was served, and all else is as it was

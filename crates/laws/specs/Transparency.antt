@@ -12,7 +12,6 @@ use Rattle.model.specs.declared.translation.Translation.{Translation}
 use Rattle.model.specs.Access.{access, uncached_access}
 use Rattle.model.specs.Calls.{RunState, after, start, step}
 use Rattle.model.specs.Currency.{current, found_now}
-use Rattle.model.specs.Registers.{with_mcr}
 use Rattle.model.specs.Requests.{access_request, access_seeks, marks_modified, validation_seeks}
 use Rattle.model.specs.States.{State}
 use Rattle.model.specs.Tlb.{Holds, Slots, base_of, rest}
@@ -37,10 +36,10 @@ pub record Setting : Type 0 where
   pub six_bits : mcr < 2 ^ 6
 
 abbrev pub set_to : Setting → Registers → Registers
-set_to v r = with_mcr v.mcr r
+set_to v r = record r { mcr = v.mcr }
 
 abbrev pub under : Setting → State → State
-under v s = record { registers = set_to v s.registers; tlb = s.tlb; values = s.values }
+under v s = record s { registers = set_to v s.registers }
 
 -- an address of the pages there are
 abbrev pub Addressable : Layout → ℕ → Type 0
@@ -72,8 +71,8 @@ pub record UnsoughtAlike (l : Layout) : Type 0 where
 
 -- whether the tables, walked now from the tag, lead to a second entry that is marked modified
 abbrev pub says_modified : Option Translation → Bool
-says_modified None = false
 says_modified (Some t) = t.modified
+says_modified None = false
 
 abbrev pub MarkedModified : Layout → State → Tag → Type 0
 MarkedModified l s tag = says_modified (found_now l tag (base_of s.registers tag) s.values) ≡ true

@@ -1,5 +1,5 @@
 -- Bus transfers: of an aligned double-word, at a physical address, serving a virtual one.
-use Rattle.std.specs.Prelude.{ℕ, ◌%◌, Bool, cond, Ok, Err, Result, ◌==◌, nat_le}
+use Rattle.std.specs.Prelude.{ℕ, ◌%◌, Bool, not, Ok, Err, Result, if◌then◌else◌, ◌==◌, nat_le}
 use Rattle.entry.specs.Bus.{merged}
 use Rattle.physical.specs.Stores.{Writable, dword, read_answer, write_answer, written}
 use Rattle.physical.specs.declared.MemoryError.{MemoryError}
@@ -20,7 +20,7 @@ is_mask mask = nat_le mask 15
 -- the memory refused: that is noted in the registers
 abbrev pub bus_error : {A : Type 0} → ℕ → ℕ → MemoryError → State → Effect (Result A Refusal)
 bus_error physical address e s = record {
-  outcome = record { answer = Err (BusError physical e); registers = bus_error_noted address s.registers; values = s.values };
+  outcome = answered (Err (BusError physical e)) (bus_error_noted address s.registers) s.values;
   action = rest;
 }
 
@@ -30,7 +30,8 @@ transferred physical address (Err e) s = bus_error physical address e s
 
 abbrev pub bus_read : ℕ → ℕ → State → Effect (Result ℕ Refusal)
 bus_read physical address s =
-    cond (is_aligned physical) (transferred physical address (read_answer (s.values (dword physical))) s) (only_answers (Err MisalignedTransfer) s)
+    if not (is_aligned physical) then only_answers (Err MisalignedTransfer) s
+    else transferred physical address (read_answer (s.values (dword physical))) s
 
 -- the double-word u is written, or refused
 abbrev pub put_transferred : ℕ → ℕ → ℕ → State → Writable → Effect (Result (Unit {0}) Refusal)
@@ -50,6 +51,6 @@ merge_transferred physical address mask v s w =
 
 abbrev pub bus_write : ℕ → ℕ → ℕ → ℕ → State → Writable → Effect (Result (Unit {0}) Refusal)
 bus_write physical address mask v s w =
-    cond (is_aligned physical)
-    (cond (is_mask mask) (merge_transferred physical address mask v s w) (only_answers (Err BadMask) s))
-    (only_answers (Err MisalignedTransfer) s)
+    if not (is_aligned physical) then only_answers (Err MisalignedTransfer) s
+    else if not (is_mask mask) then only_answers (Err BadMask) s
+    else merge_transferred physical address mask v s w

@@ -1,5 +1,6 @@
 -- Calls in a list: what each answers, and the state after it.
-use Rattle.std.specs.Prelude.{ℕ, Bool, true, false, cond, List, [], ◌∷◌, Some, None, Ok, Err, Option, Result, ◌==◌}
+use Rattle.std.specs.Prelude.{ℕ, Bool, List, [], ◌∷◌, Some, None, Ok, Err, Option, Result, nat_eq, if◌then◌else◌}
+use Rattle.std.specs.Set.{is_member, remove_key}
 use Rattle.entry.specs.Layout.{Layout}
 use Rattle.physical.specs.Stores.{Values, Writable}
 use Rattle.model.specs.declared.call.Call.{Call}
@@ -12,7 +13,7 @@ use Rattle.model.specs.Bus.{bus_read, bus_write}
 use Rattle.model.specs.Edit.{edit, flush}
 use Rattle.model.specs.Loads.{load, reset, store}
 use Rattle.model.specs.Refusals.{report_of}
-use Rattle.model.specs.States.{Effect, State, new_state, only_answers, state_after}
+use Rattle.model.specs.States.{Effect, State, answered, new_state, only_answers, state_after}
 use Rattle.model.specs.Validation.{validate}
 
 -- what a call answers
@@ -29,12 +30,10 @@ start m = record { unit = new_state m; open_tokens = [] }
 
 -- whether a token of that address is open, and the list once one is spent (as it is, if none is open)
 abbrev pub is_open : ℕ → List ℕ → Bool
-is_open a [] = false
-is_open a (b ∷ bs) = cond (b == a) true (is_open a bs)
+is_open a tokens = is_member nat_eq tokens a
 
 abbrev pub spent : ℕ → List ℕ → List ℕ
-spent a [] = []
-spent a (b ∷ bs) = cond (b == a) bs (b ∷ spent a bs)
+spent a tokens = remove_key (nat_eq a) tokens
 
 -- the answers of the several calls as one type
 abbrev pub reply : {A : Type 0} → (A → Reply) → Result A Refusal → Answer
@@ -50,14 +49,11 @@ answer_number (Ok x) = 0
 answer_number (Err x) = (report_of x).number
 
 abbrev pub answering : {A : Type 0} → (A → Answer) → Effect A → Effect Answer
-answering f e = record {
-  outcome = record { answer = f e.outcome.answer; registers = e.outcome.registers; values = e.outcome.values };
-  action = e.action;
-}
+answering f e = record { outcome = answered (f e.outcome.answer) e.outcome.registers e.outcome.values; action = e.action }
 
 -- a flush in a list names a token by its address; where none is open it alters nothing
 abbrev pub flush_open : ℕ → RunState → Effect Answer
-flush_open a s = cond (is_open a s.open_tokens) (answering (λ _. Ok Flushed) (flush a s.unit)) (only_answers (Ok NotOpen) s.unit)
+flush_open a s = if is_open a s.open_tokens then answering (λ _. Ok Flushed) (flush a s.unit) else only_answers (Ok NotOpen) s.unit
 
 -- what a call does to the unit and the memory
 abbrev pub effect : Layout → Writable → Call → RunState → Effect Answer

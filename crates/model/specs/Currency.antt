@@ -1,5 +1,6 @@
 -- Whether a kept translation still tells what the tables say.
-use Rattle.std.specs.Prelude.{ℕ, Bool, false, cond, not, ◌&&◌, ◌||◌, Some, None, Option, ◌==◌, nat_lt}
+use Rattle.std.specs.Prelude.{ℕ, Bool, false, not, ◌&&◌, ◌||◌, Some, None, Option, if◌then◌else◌, ◌==◌, nat_lt}
+use Rattle.std.specs.Bool.{beq}
 use Rattle.entry.specs.Layout.{Layout}
 use Rattle.physical.specs.Stores.{Values, dword}
 use Rattle.model.specs.declared.registers.Registers.{Registers}
@@ -10,7 +11,7 @@ use Rattle.model.specs.Walk.{found}
 
 -- the entry at an address, if it is present with V and R set
 abbrev pub used_entry : Layout → ℕ → Values → Option ℕ
-used_entry l a m = elim (m (dword a)) [ None ↦ None | Some e ↦ cond (l.valid e && l.referenced e) (Some e) None ]
+used_entry l a m = elim (m (dword a)) [ None ↦ None | Some e ↦ if l.valid e && l.referenced e then Some e else None ]
 
 -- what a walk of level 0 finds now, if it need not mark anything referenced
 abbrev pub found_now : Layout → Tag → ℕ → Values → Option Translation
@@ -23,13 +24,10 @@ found_now l tag base m =
           elim (used_entry l b m) [ None ↦ None | Some f ↦ Some (found l tag a e b f) ]
     ]
 
-abbrev pub same_flag : Bool → Bool → Bool
-same_flag b c = cond b c (not c)
-
 -- the translation t says what n says: protection, frame and cache inhibit, and modified if t is and its protection lets a write pass
 abbrev pub says_as : Translation → Translation → Bool
 says_as t n =
-    (t.protection == n.protection) && (t.frame == n.frame && (same_flag t.inhibit n.inhibit
+    (t.protection == n.protection) && (t.frame == n.frame && (beq t.inhibit n.inhibit
     && (not (t.modified && nat_lt 0 t.protection) || n.modified)))
 
 -- current: such a walk now, from the base register of its space, finds what it says. Otherwise it is stale. Where the

@@ -1,6 +1,6 @@
 -- The host's edit of a table entry, in its pieces: the name is checked, the entry is reached, it is written, and a token
 -- carries its address. And the flush of a token.
-use Rattle.std.specs.Prelude.{ℕ, cond, Some, None, Ok, Err, Option, Result, ◌==◌, nat_le, nat_lt}
+use Rattle.std.specs.Prelude.{ℕ, ◌&&◌, Some, None, Ok, Err, Option, Result, if◌then◌else◌, ◌==◌, nat_le, nat_lt}
 use Rattle.entry.specs.Layout.{Layout}
 use Rattle.entry.specs.declared.TableLevel.{TableLevel}
 use Rattle.entry.specs.declared.TableLevel.TheVariants.{First, Second}
@@ -15,13 +15,13 @@ use Rattle.model.specs.Tlb.{base_of, drop, read_from, rest, tag_of}
 
 -- the name of an entry: a space of two, a table level of two, a page of those there are
 abbrev pub named_level : ℕ → Option TableLevel
-named_level n = cond (n == 1) (Some First) (cond (n == 2) (Some Second) None)
+named_level n = if n == 1 then Some First else if n == 2 then Some Second else None
 
 abbrev pub named : Layout → EditOperands → Option EntryName
 named l x =
     elim (named_level x.level) [
       | None ↦ None
-      | Some t ↦ cond (nat_le x.space 1) (cond (nat_lt x.page l.page_count) (Some (record { space = x.space; level = t; page = x.page })) None) None
+      | Some t ↦ if nat_le x.space 1 && nat_lt x.page l.page_count then Some (record { space = x.space; level = t; page = x.page }) else None
     ]
 
 -- where the entry lies: as a walk goes, marking nothing, and asking only V of the first entry on the way to the second
@@ -29,7 +29,7 @@ abbrev pub reached_second : Layout → ℕ → ℕ → Values → Option ℕ
 reached_second l a page m =
     elim (m (dword a)) [
       | None ↦ None
-      | Some e ↦ cond (l.valid e) (Some (l.second_entry (l.frame e) page)) None
+      | Some e ↦ if l.valid e then Some (l.second_entry (l.frame e) page) else None
     ]
 
 abbrev pub reached_at : Layout → TableLevel → ℕ → ℕ → Values → Option ℕ

@@ -1,5 +1,5 @@
 -- Two runs worked out by the definitions.
-use Rattle.std.specs.Prelude.{◌≡◌, ℕ, Bool, true, false, cond, List, [], ◌∷◌, replicate, Some, None, Ok, Err, nat_lt}
+use Rattle.std.specs.Prelude.{◌≡◌, ℕ, Bool, true, false, List, [], ◌∷◌, replicate, Some, None, Ok, Err, if◌then◌else◌, nat_lt}
 use Rattle.entry.specs.NS32382.{ns32382}
 use Rattle.physical.specs.Stores.{Values, dword}
 use Rattle.physical.specs.Made.{everywhere}
@@ -15,7 +15,7 @@ use Rattle.model.specs.Tlb.{Holds}
 
 -- 32,768 bytes of zeroed RAM at address 0
 abbrev pub zeroed_ram : Values
-zeroed_ram q = cond (nat_lt q 8192) (Some 0) None
+zeroed_ram q = if nat_lt q 8192 then Some 0 else None
 
 -- PTB0 and MCR are loaded and two entries written; then a user reads, a user writes, and the second entry is read
 abbrev pub worked_calls : List Call

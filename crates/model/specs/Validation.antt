@@ -1,5 +1,5 @@
 -- A validation: whether a user's access would be stopped by protection. It writes nothing, keeps nothing, drops nothing.
-use Rattle.std.specs.Prelude.{ℕ, Bool, true, false, cond, not, Some, None, Ok, Err, Result}
+use Rattle.std.specs.Prelude.{ℕ, Bool, true, false, not, Some, None, Ok, Err, Result, if◌then◌else◌}
 use Rattle.entry.specs.Access.{permits}
 use Rattle.entry.specs.Layout.{Layout}
 use Rattle.entry.specs.declared.TableLevel.TheVariants.{First, Second}
@@ -32,9 +32,9 @@ examine l level tag base m =
     elim (m (dword a)) [
       | None ↦ Err (EntryRefused First a Absent)
       | Some e ↦
-          cond (permits (l.protection e) level)
-          (cond (l.valid e) (examine_second l level (l.second_entry (l.frame e) tag.page) m) (Err (InvalidEntry First a)))
-          (Ok true)
+          if not (permits (l.protection e) level) then Ok true
+          else if not (l.valid e) then Err (InvalidEntry First a)
+          else examine_second l level (l.second_entry (l.frame e) tag.page) m
     ]
 
 abbrev pub examined : Request → Registers → Values → Result Bool Abort → Outcome Validated

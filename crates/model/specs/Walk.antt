@@ -1,5 +1,5 @@
 -- The walk through both tables. The unit makes it, and so does the machine that keeps nothing.
-use Rattle.std.specs.Prelude.{ℕ, Bool, false, cond, Some, None, Ok, Err, Result, ◌==◌}
+use Rattle.std.specs.Prelude.{ℕ, Bool, false, not, Some, None, Ok, Err, Result, if◌then◌else◌, ◌==◌}
 use Rattle.entry.specs.Access.{effective_protection, permits}
 use Rattle.entry.specs.Layout.{Layout}
 use Rattle.entry.specs.declared.TableLevel.{TableLevel}
@@ -16,21 +16,25 @@ abbrev pub passed : Layout → TableLevel → ℕ → ℕ → Values → Result 
 passed l t level a m =
     elim (m (dword a)) [
       | None ↦ Err (EntryRefused t a Absent)
-      | Some e ↦ cond (l.valid e) (cond (permits (l.protection e) level) (Ok e) (Err Protection)) (Err (InvalidEntry t a))
+      | Some e ↦
+          if not (l.valid e) then Err (InvalidEntry t a)
+          else if not (permits (l.protection e) level) then Err Protection
+          else Ok e
     ]
 
 -- an entry as a walk leaves it
 abbrev pub marked : Layout → TableLevel → Bool → ℕ → ℕ
-marked l t modifies e = cond modifies (l.mark_modified t (l.mark_referenced t e)) (l.mark_referenced t e)
+marked l t modifies e = if modifies then l.mark_modified t (l.mark_referenced t e) else l.mark_referenced t e
 
 -- the mark, made by one write if it alters the entry: the entry as it then stands, and the memory. A refused write leaves
 -- the memory as it was (`written` says so)
 abbrev pub touched : Layout → TableLevel → Bool → ℕ → ℕ → Values → Writable → Result ℕ Abort × Values
 touched l t modifies a e m w =
-    cond (marked l t modifies e == e) (Ok e, m)
-    (elim (write_answer (m (dword a)) (w (dword a))) [
-      | Ok _ ↦ (Ok (marked l t modifies e), written m w (dword a) (marked l t modifies e))
-      | Err reason ↦ (Err (EntryRefused t a reason), written m w (dword a) (marked l t modifies e))
+    let mark = marked l t modifies e in
+    if mark == e then (Ok e, m)
+    else (elim (write_answer (m (dword a)) (w (dword a))) [
+      | Ok _ ↦ (Ok mark, written m w (dword a) mark)
+      | Err reason ↦ (Err (EntryRefused t a reason), written m w (dword a) mark)
     ])
 
 -- what a walk found, of the entries as it left them
