@@ -12,7 +12,7 @@ use Rattle.model.specs.Tlb.{base_of, tag_of}
 
 -- 4 to 8, 15 and 16: refused for the call's operands, or an edit for what the tables hold
 abbrev pub is_outright : ℕ → Bool
-is_outright n = (nat_le 4 n && nat_le n 8) || (n == 15 || n == 16)
+is_outright n = (nat_le 4 n && nat_le n 8) || n == 15 || n == 16
 
 abbrev pub outright_number : ℕ → ℕ
 outright_number n = if is_outright n then n else 0
@@ -46,7 +46,7 @@ owed l w s (Validate kind address) = if nat_le kind 1 then 0 else 6
 owed l w s (BusRead physical address) = if physical % 4 == 0 then 0 else 7
 owed l w s (BusWrite physical address mask v) = if not (physical % 4 == 0) then 7 else if nat_le mask 15 then 0 else 8
 owed l w s (Edit x) =
-    if not (nat_le x.space 1 && ((x.level == 1 || x.level == 2) && nat_lt x.page l.page_count)) then 15
+    if not (nat_le x.space 1 && (x.level == 1 || x.level == 2) && nat_lt x.page l.page_count) then 15
     else if entry_can_be_written l s.unit.registers s.unit.values w x then 0
     else 16
 owed l w s (Flush a) = 0

@@ -1,6 +1,7 @@
 -- Whether a kept translation still tells what the tables say.
 use Rattle.std.specs.Prelude.{ℕ, Bool, false, not, ◌&&◌, ◌||◌, Some, None, Option, if◌then◌else◌, ◌==◌, nat_lt}
 use Rattle.std.specs.Bool.{beq}
+use Rattle.std.specs.Option.{option_map}
 use Rattle.entry.specs.Layout.{Layout}
 use Rattle.physical.specs.Stores.{Values, dword}
 use Rattle.model.specs.declared.registers.Registers.{Registers}
@@ -21,14 +22,14 @@ found_now l tag base m =
       | None ↦ None
       | Some e ↦
           let b = l.second_entry (l.frame e) tag.page in
-          elim (used_entry l b m) [ None ↦ None | Some f ↦ Some (found l tag a e b f) ]
+          option_map (found l tag a e b) (used_entry l b m)
     ]
 
 -- the translation t says what n says: protection, frame and cache inhibit, and modified if t is and its protection lets a write pass
 abbrev pub says_as : Translation → Translation → Bool
 says_as t n =
-    (t.protection == n.protection) && (t.frame == n.frame && (beq t.inhibit n.inhibit
-    && (not (t.modified && nat_lt 0 t.protection) || n.modified)))
+    t.protection == n.protection && t.frame == n.frame && beq t.inhibit n.inhibit
+    && (not (t.modified && nat_lt 0 t.protection) || n.modified)
 
 -- current: such a walk now, from the base register of its space, finds what it says. Otherwise it is stale. Where the
 -- entries lie is not compared

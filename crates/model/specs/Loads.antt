@@ -1,5 +1,6 @@
 -- Reset, and loads and stores of registers.
 use Rattle.std.specs.Prelude.{ℕ, Some, None, Ok, Err, Result}
+use Rattle.std.specs.Option.{ok_or}
 use Rattle.entry.specs.Layout.{Layout}
 use Rattle.model.specs.declared.refusal.Refusal.{Refusal}
 use Rattle.model.specs.declared.refusal.Refusal.TheVariants.{UnknownRegister, WriteOnlyRegister}
@@ -33,7 +34,7 @@ abbrev pub store_answer : ℕ → Registers → Result ℕ Refusal
 store_answer code r =
     elim (register_of code) [
       | None ↦ Err UnknownRegister
-      | Some x ↦ elim (held x r) [ None ↦ Err WriteOnlyRegister | Some v ↦ Ok v ]
+      | Some x ↦ ok_or (held x r) WriteOnlyRegister
     ]
 
 abbrev pub store : ℕ → State → Effect (Result ℕ Refusal)

@@ -24,12 +24,12 @@ abbrev pub kind_of : ℕ → Option AccessKind
 kind_of n = if n == 0 then Some Read else if n == 1 then Some Write else if n == 2 then Some ReadModifyWrite else None
 
 -- what an access asks, or the refusal of a mode or a kind that does not exist
+abbrev pub checked_request : Option Mode → Option AccessKind → ℕ → Result Request Refusal
+checked_request (Some m) (Some k) address = Ok (record { mode = m; kind = k; address = address })
+checked_request _ _ address = Err BadAccess
+
 abbrev pub access_request : ℕ → ℕ → ℕ → Result Request Refusal
-access_request mode kind address =
-    elim (mode_of mode) [
-      | None ↦ Err BadAccess
-      | Some m ↦ elim (kind_of kind) [ None ↦ Err BadAccess | Some k ↦ Ok (record { mode = m; kind = k; address = address }) ]
-    ]
+access_request mode kind address = checked_request (mode_of mode) (kind_of kind) address
 
 -- what a validation asks, as a user: 0 validates a read, 1 a write
 abbrev pub validation_request : ℕ → ℕ → Result Request Refusal

@@ -55,8 +55,8 @@ walk_second l level modifies tag a e b m w =
     elim (passed l Second level b m) [
       | Err x ↦ (Err x, m)
       | Ok f ↦
-          let left = touched l Second modifies b f m w in
-          elim left.0 [ Err x ↦ (Err x, left.1) | Ok g ↦ (Ok (found l tag a e b g), left.1) ]
+          let (left, n) = touched l Second modifies b f m w in
+          elim left [ Err x ↦ (Err x, n) | Ok g ↦ (Ok (found l tag a e b g), n) ]
     ]
 
 -- the walk from the first table at `base`, for an access of that level that marks the page modified or not
@@ -66,9 +66,6 @@ walk l level modifies tag base m w =
     elim (passed l First level a m) [
       | Err x ↦ (Err x, m)
       | Ok e ↦
-          let left = touched l First false a e m w in
-          elim left.0 [
-            | Err x ↦ (Err x, left.1)
-            | Ok g ↦ walk_second l level modifies tag a g (l.second_entry (l.frame g) tag.page) left.1 w
-          ]
+          let (left, n) = touched l First false a e m w in
+          elim left [ Err x ↦ (Err x, n) | Ok g ↦ walk_second l level modifies tag a g (l.second_entry (l.frame g) tag.page) n w ]
     ]
