@@ -1,5 +1,5 @@
 -- Two units that cannot be told apart until something stale is looked for.
-use Rattle.std.specs.Prelude.{◌≡◌, ℕ, ◌<◌, ◌≤◌, true, List, length, Some, None, Option}
+use Rattle.std.specs.Prelude.{◌≡◌, ℕ, ◌<◌, ◌≤◌, true, List, length, Some, None, Option, IsTrue}
 use Rattle.entry.specs.Layout.{Layout}
 use Rattle.physical.specs.Stores.{Values, Writable}
 use Rattle.model.specs.declared.call.Call.{Call}
@@ -24,7 +24,7 @@ SeeksNoneStale l s c = (tag : Tag) → seeks l s.unit.registers c ≡ Some tag �
 
 -- if it is a flush, a token of that address is open
 abbrev pub TokenOpen : RunState → Call → Type 0
-TokenOpen s c = (a : ℕ) → c ≡ Flush a → is_open a s.open_tokens ≡ true
+TokenOpen s c = (a : ℕ) → c ≡ Flush a → IsTrue (is_open a s.open_tokens)
 
 abbrev pub Fair : Layout → RunState → Call → Type 0
 Fair l s c = SeeksNoneStale l s c × TokenOpen s c

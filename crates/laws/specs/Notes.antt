@@ -1,5 +1,5 @@
 -- What an abort and a bus error leave in the registers, field by field.
-use Rattle.std.specs.Prelude.{◌≡◌, ℕ, Bool, true, false, ◌&&◌, ◌||◌, Some, None, Ok, Err, Option, Result, if◌then◌else◌, nat_le}
+use Rattle.std.specs.Prelude.{◌≡◌, ℕ, Bool, true, false, ◌&&◌, ◌||◌, Some, None, Ok, Err, Option, Result, if◌then◌else◌, nat_le, IsTrue, IsFalse}
 use Rattle.entry.specs.Access.{is_user}
 use Rattle.entry.specs.Bits.{field, flag}
 use Rattle.entry.specs.Layout.{Layout}
@@ -63,7 +63,7 @@ pub record AbortNotes (x : Abort) (q : Request) (r r' : Registers) : Type 0 wher
 -- a bus error: CE is set, BEAR holds the address that was served, and all else is as it was
 pub record BusErrorNotes (address : ℕ) (r r' : Registers) : Type 0 where
   pub bits_0_to_8 : field 0 9 r'.msr ≡ field 0 9 r.msr
-  pub ce : flag 9 r'.msr ≡ true
+  pub ce : IsTrue (flag 9 r'.msr)
   pub bits_10_to_31 : field 10 22 r'.msr ≡ field 10 22 r.msr
   pub bear : r'.bear ≡ address
   pub others : (r'.bar ≡ r.bar) × (r'.bmr ≡ r.bmr) × (r'.bdr ≡ r.bdr) × (r'.mcr ≡ r.mcr) × (r'.tear ≡ r.tear) × (r'.ptb0 ≡ r.ptb0) × (r'.ptb1 ≡ r.ptb1)
@@ -87,7 +87,7 @@ is_noted x = nat_le 9 (answer_number x) && nat_le (answer_number x) 14
 pub data Notes (c : Call) (r : Registers) : Answer → Registers → Type 0 where
   of_abort : (x : Abort) (q : Request) (r' : Registers) → request_of c ≡ Ok q → AbortNotes x q r r' → Notes c r (Err (Aborted x)) r'
   of_bus_error : (a : ℕ) (e : MemoryError) (address : ℕ) (r' : Registers) → served_address c ≡ Some address → BusErrorNotes address r r' → Notes c r (Err (BusError a e)) r'
-  of_none : (x : Answer) → is_noted x ≡ false → Notes c r x r
+  of_none : (x : Answer) → IsFalse (is_noted x) → Notes c r x r
 
 -- resets and loads set registers; every other call leaves what its answer says, in every state
 abbrev pub sets_registers : Call → Bool
@@ -96,4 +96,4 @@ sets_registers (Load code v) = true
 sets_registers _ = false
 
 abbrev pub RegisterNotes : Layout → Type 0
-RegisterNotes l = (w : Writable) (s : RunState) (c : Call) → sets_registers c ≡ false → Notes c s.unit.registers (step l w c s).0 (step l w c s).1.unit.registers
+RegisterNotes l = (w : Writable) (s : RunState) (c : Call) → IsFalse (sets_registers c) → Notes c s.unit.registers (step l w c s).0 (step l w c s).1.unit.registers

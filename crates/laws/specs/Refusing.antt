@@ -1,5 +1,5 @@
 -- The calls that are refused outright, and what for.
-use Rattle.std.specs.Prelude.{◌≡◌, ℕ, ◌%◌, Bool, true, false, not, ◌&&◌, ◌||◌, List, [], ◌∷◌, is_some, Some, None, if◌then◌else◌, ◌==◌, nat_eq, nat_le, nat_lt}
+use Rattle.std.specs.Prelude.{◌≡◌, ℕ, ◌%◌, Bool, true, false, not, ◌&&◌, ◌||◌, List, [], ◌∷◌, is_some, Some, None, if◌then◌else◌, ◌==◌, nat_eq, nat_le, nat_lt, IsTrue}
 use Rattle.std.specs.Set.{is_member}
 use Rattle.entry.specs.Layout.{Layout}
 use Rattle.physical.specs.Stores.{Values, Writable, dword}
@@ -54,4 +54,4 @@ owed l w s (Flush a) = 0
 -- in every state: each of these numbers is told exactly where it is owed, and then nothing is altered
 pub record OutrightRefusals (l : Layout) : Type 0 where
   pub exactly_owed : (w : Writable) (s : RunState) (c : Call) → outright_number (answer_number (step l w c s).0) ≡ owed l w s c
-  pub alter_nothing : (w : Writable) (s : RunState) (c : Call) → is_outright (answer_number (step l w c s).0) ≡ true → (step l w c s).1 ≡ s
+  pub alter_nothing : (w : Writable) (s : RunState) (c : Call) → IsTrue (is_outright (answer_number (step l w c s).0)) → (step l w c s).1 ≡ s

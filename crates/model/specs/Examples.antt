@@ -1,5 +1,5 @@
 -- Two runs worked out by the definitions.
-use Rattle.std.specs.Prelude.{◌≡◌, ℕ, Bool, true, false, List, [], ◌∷◌, replicate, Some, None, Ok, Err, if◌then◌else◌, nat_lt}
+use Rattle.std.specs.Prelude.{◌≡◌, ℕ, Bool, true, false, List, [], ◌∷◌, replicate, Some, None, Ok, Err, if◌then◌else◌, nat_lt, IsTrue}
 use Rattle.entry.specs.NS32382.{ns32382}
 use Rattle.physical.specs.Stores.{Values, dword}
 use Rattle.physical.specs.Made.{everywhere}
@@ -57,7 +57,7 @@ pub record WorkedRun : Type 0 where
   pub next : worked_end.unit.tlb.next ≡ 1
   pub first_entry : worked_end.unit.values (dword 0x1004) ≡ Some 0x2087
   pub second_entry : worked_end.unit.values (dword 0x200c) ≡ Some 0x5085
-  pub current_at_end : current ns32382 worked_end.unit.registers worked_end.unit.values worked_translation ≡ true
+  pub current_at_end : IsTrue (current ns32382 worked_end.unit.registers worked_end.unit.values worked_translation)
   -- with R and a bit of the user's set it is as current as before; with R clear it is stale
   pub still_current : KeptThen 0x00005285 true
   pub stale : KeptThen 0x00005005 false
