@@ -14,12 +14,13 @@ pub struct Request {
 // The name of a table entry: the space and the page that lead to it, and the level of its table.
 #[derive(Clone, Copy, PartialEq, Eq, Debug)]
 pub struct EntryName {
+    // 0 or 1: a number, as in a `Tag`.
     pub space: u8,
     pub level: TableLevel,
     pub page: u32,
 }
 
-// What an edit is asked to do: which entry, and its new value.
+// What an edit is asked to do: the name of an entry in numbers, and its new value. Any number is accepted.
 #[derive(Clone, Copy, PartialEq, Eq, Debug)]
 pub struct EditOperands {
     pub space: u8,
@@ -28,7 +29,7 @@ pub struct EditOperands {
     pub value: u32,
 }
 
-// One call. Operands are numbers of 8 or 32 bits, as a caller writes them, and any number is accepted.
+// One call. Its operands are numbers, a mode, a kind and a level too, since calls are told numbers; any is accepted.
 #[derive(Clone, Copy, PartialEq, Eq, Debug)]
 pub enum Call {
     Reset,
