@@ -39,7 +39,7 @@ walk_marks : (l : Layout) → Lawful l → (w : Writable) (q : Request) (r : Reg
 walk_marks l laws w q r m a inhibit marks = on (walked l q r m w) (walks l laws (level_of r q) (marks_modified q.kind) (sought l r q) (base_of r (sought l r q)) m w)
   where
     apart : (x : Refusal) → Err x ≡ Ok (Translated a inhibit) → ⊥
-    apart x h = let z : ◌≡◌ {A = ℕ} 0 1 = cc in omega arith
+    apart x h = cc
 
     on : (x : Result Translation Abort × Values) → Walks l (level_of r q) (marks_modified q.kind) (sought l r q) (base_of r (sought l r q)) m x →
         reply translation_reply (walk_outcome l q r x).answer ≡ Ok (Translated a inhibit) →

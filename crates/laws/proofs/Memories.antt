@@ -1,5 +1,7 @@
 -- Over two equal memories, what reads and writes them has the same outcome.
+use Rattle.std.specs.Prelude.{◌==◌, if◌then◌else◌}
 use Rattle.std.proofs.Common.{◌≡◌, ℕ, ◌<◌, Bool, true, false, cond, eqb, Some, None, Ok, Err, Option, Result, refl, ap, ◌∙◌, subst, ap₂, arith}
+use Rattle.std.proofs.lemmas.Option.{some_pair_parts}
 use Rattle.entry.specs.Access.{permits}
 use Rattle.entry.specs.Layout.{Layout}
 use Rattle.entry.specs.declared.TableLevel.{TableLevel}
@@ -18,23 +20,22 @@ use Rattle.model.specs.Tlb.{base_of}
 use Rattle.model.specs.Validation.{examine, examine_second, examined, uncached_validate, uncached_validate_through}
 use Rattle.model.specs.Walk.{found, marked, passed, touched, walk, walk_second}
 use Rattle.laws.specs.Outcomes.{SameMemory, SameOutcome, seen}
-use Rattle.laws.proofs.Slots.{some_same}
 
 -- what can be seen of a double-word tells its value
 pub seen_value : (x y : Option ℕ) (b c : Bool) → seen x b ≡ seen y c → x ≡ y
 seen_value None None b c h = refl
-seen_value None (Some y) b c h = let z : ◌≡◌ {A = ℕ} 0 1 = cc in absurd (omega arith)
-seen_value (Some x) None b c h = let z : ◌≡◌ {A = ℕ} 0 1 = cc in absurd (omega arith)
-seen_value (Some x) (Some y) b c h = ap Some (ap (λ p. p.0) (some_same (x, b) (y, c) h))
+seen_value None (Some y) b c h = absurd cc
+seen_value (Some x) None b c h = absurd cc
+seen_value (Some x) (Some y) b c h = ap Some (some_pair_parts x y b c h).0
 
 pub dword_small : (a : ℕ) → dword a < 1073741824
 dword_small a = omega arith
 
 seen_write : (x y : Option ℕ) (b c : Bool) → seen x b ≡ seen y c → write_answer x b ≡ write_answer y c
 seen_write None None b c h = refl
-seen_write None (Some y) b c h = let z : ◌≡◌ {A = ℕ} 0 1 = cc in absurd (omega arith)
-seen_write (Some x) None b c h = let z : ◌≡◌ {A = ℕ} 0 1 = cc in absurd (omega arith)
-seen_write (Some x) (Some y) b c h = let e : b ≡ c = ap (λ p. p.1) (some_same (x, b) (y, c) h) in ap (write_answer (Some x)) e ∙ value c
+seen_write None (Some y) b c h = absurd cc
+seen_write (Some x) None b c h = absurd cc
+seen_write (Some x) (Some y) b c h = ap (write_answer (Some x)) (some_pair_parts x y b c h).1 ∙ value c
   where
     value : (d : Bool) → write_answer (Some x) d ≡ write_answer (Some y) d
     value true = refl
@@ -42,11 +43,10 @@ seen_write (Some x) (Some y) b c h = let e : b ≡ c = ap (λ p. p.1) (some_same
 
 seen_replaced : (v : ℕ) (x y : Option ℕ) (b c : Bool) → seen x b ≡ seen y c → seen (replaced v x b) b ≡ seen (replaced v y c) c
 seen_replaced v None None b c h = refl
-seen_replaced v None (Some y) b c h = let z : ◌≡◌ {A = ℕ} 0 1 = cc in absurd (omega arith)
-seen_replaced v (Some x) None b c h = let z : ◌≡◌ {A = ℕ} 0 1 = cc in absurd (omega arith)
+seen_replaced v None (Some y) b c h = absurd cc
+seen_replaced v (Some x) None b c h = absurd cc
 seen_replaced v (Some x) (Some y) b c h =
-    let e : b ≡ c = ap (λ p. p.1) (some_same (x, b) (y, c) h) in
-    let f : x ≡ y = ap (λ p. p.0) (some_same (x, b) (y, c) h) in
+    let (f, e) = some_pair_parts x y b c h in
     ap₂ (λ p d. seen (replaced v (Some p) d) d) f e
 
 module _ (w u : Writable) where
@@ -62,9 +62,9 @@ module _ (w u : Writable) where
     same_write a = seen_write (m (dword a)) (n (dword a)) (w (dword a)) (u (dword a)) (same (dword a) (dword_small a))
 
     pub same_written : (k v : ℕ) → SameMemory (written m w k v) w (written n u k v) u
-    same_written k v q small = on (eqb q k)
+    same_written k v q small = on (q == k)
       where
-        on : (b : Bool) → seen (cond b (replaced v (m q) (w q)) (m q)) (w q) ≡ seen (cond b (replaced v (n q) (u q)) (n q)) (u q)
+        on : (b : Bool) → seen (if b then replaced v (m q) (w q) else m q) (w q) ≡ seen (if b then replaced v (n q) (u q) else n q) (u q)
         on true = seen_replaced v (m q) (n q) (w q) (u q) (same q small)
         on false = same q small
 
@@ -72,7 +72,7 @@ module _ (w u : Writable) where
     same_passed l t level a = rw (same_read a, passed)
 
     same_touched : (l : Layout) (t : TableLevel) (b : Bool) (a e : ℕ) → SamePair (touched l t b a e m w) (touched l t b a e n u)
-    same_touched l t b a e = on (eqb (marked l t b e) e) refl
+    same_touched l t b a e = on (marked l t b e == e) refl
       where
         on_write : (x : WriteOutcome) → SamePair {A = Result ℕ Abort}
             (elim x [ Ok _ ↦ (Ok (marked l t b e), written m w (dword a) (marked l t b e)) | Err reason ↦ (Err (EntryRefused t a reason), written m w (dword a) (marked l t b e)) ])
@@ -80,7 +80,7 @@ module _ (w u : Writable) where
         on_write (Ok _) = (refl, same_written (dword a) (marked l t b e))
         on_write (Err reason) = (refl, same_written (dword a) (marked l t b e))
 
-        on : (c : Bool) → eqb (marked l t b e) e ≡ c → SamePair (touched l t b a e m w) (touched l t b a e n u)
+        on : (c : Bool) → marked l t b e == e ≡ c → SamePair (touched l t b a e m w) (touched l t b a e n u)
         on true c = rw (c, touched) (refl, same)
         on false c = rw (c, touched, same_write a) (on_write (write_answer (n (dword a)) (u (dword a))))
 

@@ -1,4 +1,5 @@
 -- What each call does to the registers, the memory and the kept translations, as far as the laws of runs ask.
+use Rattle.std.specs.Prelude.{◌==◌}
 use Rattle.std.proofs.Common.{◌≡◌, ℕ, ◌≤◌, Bool, true, false, not, ◌||◌, eqb, Some, None, Ok, Err, Option, Result, sym, refl, subst, arith}
 use Rattle.std.proofs.lemmas.Bool.Decides.{nat_tests}
 use Rattle.entry.specs.Access.{permits}
@@ -132,8 +133,8 @@ plainly : (l : Layout) (s : State) (r : Registers) (a : TlbAction) → ((t : Tag
 plainly l s r a same none = marks_only r s.values a (grown_refl l s.values) (λ t _ _. same t.tag) none
 
 -- of the two spaces, one that is not the one is the other
-other_space : (r r' : Registers) (t : Tag) → t.space ≤ 1 → eqb t.space 1 ≡ false → r'.ptb0 ≡ r.ptb0 → base_of r' t ≡ base_of r t
-other_space r r' t small stays same = let z : eqb t.space 0 ≡ true = grind (arith, nat_tests) in rw z same
+other_space : (r r' : Registers) (t : Tag) → t.space ≤ 1 → t.space == 1 ≡ false → r'.ptb0 ≡ r.ptb0 → base_of r' t ≡ base_of r t
+other_space r r' t small stays same = let z : t.space == 0 ≡ true = grind (arith, nat_tests) in rw z same
 
 loaded_moves : (l : Layout) (x : Register) (v : ℕ) (s : State) → Moves l s (loaded l x v s.registers) s.values (load_action l x v s.registers)
 loaded_moves l Bar v s = plainly l s _ _ (λ t. refl) (λ h. h)
@@ -143,7 +144,7 @@ loaded_moves l Bear v s = plainly l s _ _ (λ t. refl) (λ h. h)
 loaded_moves l Mcr v s = plainly l s _ _ (λ t. refl) (λ h. h)
 loaded_moves l Msr v s = plainly l s _ _ (λ t. refl) (λ h. h)
 loaded_moves l Tear v s = plainly l s _ _ (λ t. refl) (λ h. h)
-loaded_moves l Ptb0 v s = marks_only _ s.values _ (grown_refl l s.values) (λ t small stays. let e : eqb t.tag.space 0 ≡ false = stays in rw e) (λ h. h)
+loaded_moves l Ptb0 v s = marks_only _ s.values _ (grown_refl l s.values) (λ t small stays. let e : t.tag.space == 0 ≡ false = stays in rw e) (λ h. h)
 loaded_moves l Ptb1 v s = marks_only _ s.values _ (grown_refl l s.values) (λ t small stays. other_space s.registers (loaded l Ptb1 v s.registers) t.tag small stays refl) (λ h. h)
 loaded_moves l Ivar0 v s = plainly l s _ _ (λ t. refl) (λ h. h)
 loaded_moves l Ivar1 v s = plainly l s _ _ (λ t. refl) (λ h. h)

@@ -1,4 +1,5 @@
 -- The fields of MSR after an abort and a bus error.
+use Rattle.std.specs.Prelude.{◌==◌, if◌then◌else◌}
 use Rattle.std.proofs.Common.{◌≡◌, ℕ, zero, suc, ◌+◌, ◌-◌, ◌/◌, ◌%◌, ◌^◌, ◌<◌, Bool, true, false, cond, not, ◌||◌, eqb, Some, None, Ok, Err, Option, Result, sym, refl, ap, ◌∙◌, arith}
 use native.Mathlib.Nat.{mod-mod}
 use lib.Bits.{bit_and, bit_or, and_zero_r}
@@ -82,7 +83,7 @@ beside_user e h = record { ddt = grind (arith, nat_tests); ust = grind (arith, n
 beside_both : (e : ℕ) → e / 4 % 4 ≡ 0 → Beside e 12 true true
 beside_both e h = record { ddt = grind (arith, nat_tests); ust = grind (arith, nat_tests); low = grind (arith, nat_tests); middle = grind (arith, nat_tests); bit_8 = grind (arith, nat_tests); bit_9 = grind (arith, nat_tests); bit_10 = grind (arith, nat_tests); high = grind (arith, nat_tests) }
 
-beside_of : (e : ℕ) → e / 4 % 4 ≡ 0 → (k : AccessKind) (m : Mode) → Beside e (cond (is_write k) 0x004 0 + cond (is_user m) 0x008 0) (is_write k) (is_user m)
+beside_of : (e : ℕ) → e / 4 % 4 ≡ 0 → (k : AccessKind) (m : Mode) → Beside e ((if is_write k then 0x004 else 0) + (if is_user m then 0x008 else 0)) (is_write k) (is_user m)
 beside_of e h Read Supervisor = beside_none e h
 beside_of e h Read User = beside_user e h
 beside_of e h Write Supervisor = beside_write e h
@@ -90,8 +91,8 @@ beside_of e h Write User = beside_both e h
 beside_of e h ReadModifyWrite Supervisor = beside_none e h
 beside_of e h ReadModifyWrite User = beside_user e h
 
-is_one : (x y : ℕ) → x ≡ y → eqb x 1 ≡ eqb y 1
-is_one x y e = ap (λ z. eqb z 1) e
+is_one : (x y : ℕ) → x ≡ y → (x == 1) ≡ (y == 1)
+is_one x y e = ap (λ z. z == 1) e
 
 -- the aborts, by mask and bits
 breakpoint_status : (q : Request) (v : ℕ) → AbortStatus Breakpoint q v (with_bits 0x10c (0x100 + direction_and_mode q) v)

@@ -1,5 +1,6 @@
 -- Where the unit and the machine that keeps nothing have the same outcomes, what is kept is current: accesses and
 -- validations under a few settings tell all that is in it.
+use Rattle.std.specs.Prelude.{if◌then◌else◌}
 use Rattle.std.proofs.Common.{◌≡◌, ℕ, zero, suc, ◌*◌, ◌^◌, ◌<◌, ◌≤◌, min, Bool, true, false, cond, not, ◌&&◌, ◌||◌, Some, Ok, Err, Result, sym, refl, ap, ◌∙◌, subst, mul-lt-mul_of_pos_right, arith, lit<}
 use Rattle.std.proofs.lemmas.Bool.Decides.{nat_tests}
 use Rattle.entry.specs.Access.{access_level, permits}
@@ -70,12 +71,12 @@ ended l laws level b tag base m t p frame inhibit address f same told =
 record Probe (space : ℕ) (override : Bool) : Type 0 where
   setting : Setting
   translates : flag 0 setting.mcr ≡ true
-  spaces : cond (flag 2 setting.mcr && true) 1 0 ≡ space
+  spaces : (if flag 2 setting.mcr && true then 1 else 0) ≡ space
   overrides : flag 3 setting.mcr ≡ override
   no_read_break : flag 4 setting.mcr ≡ false
   no_write_break : flag 5 setting.mcr ≡ false
 
-probe_of : (v : ℕ) → v < 2 ^ 6 → (space : ℕ) (override : Bool) → flag 0 v ≡ true → cond (flag 2 v && true) 1 0 ≡ space → flag 3 v ≡ override → flag 4 v ≡ false → flag 5 v ≡ false → Probe space override
+probe_of : (v : ℕ) → v < 2 ^ 6 → (space : ℕ) (override : Bool) → flag 0 v ≡ true → (if flag 2 v && true then 1 else 0) ≡ space → flag 3 v ≡ override → flag 4 v ≡ false → flag 5 v ≡ false → Probe space override
 probe_of v small space override a b c d e = record { setting = record { mcr = v; six_bits = small }; translates = a; spaces = b; overrides = c; no_read_break = d; no_write_break = e }
 
 probe : (space : ℕ) (override : Bool) → space ≤ 1 → Probe space override
@@ -92,7 +93,7 @@ hit_ended : (l : Layout) → Lawful l → (w : Writable) (q : Request) (r : Regi
 hit_ended l laws w q r m frame inhibit same = on (walked l q r m w) (walks l laws (level_of r q) (marks_modified q.kind) (sought l r q) (base_of r (sought l r q)) m w) same
   where
     apart : (x : ℕ × Bool) (y : Refusal) → Ok x ≡ Err y → ⊥
-    apart x y h = let z : ◌≡◌ {A = ℕ} 0 1 = cc in omega arith
+    apart x y h = cc
 
     inner : (x y : ℕ × Bool) → ◌≡◌ {A = Result (ℕ × Bool) Refusal} (Ok x) (Ok y) → x ≡ y
     inner x y h = cc

@@ -1,6 +1,8 @@
 -- The ways of a walk, each with what is known there.
+use Rattle.std.specs.Prelude.{◌==◌}
 use Rattle.std.proofs.Common.{◌≡◌, ℕ, Bool, true, false, eqb, Some, None, Ok, Err, Option, Result, sym, refl, ◌∙◌}
 use Rattle.std.proofs.lemmas.Bool.{eqb-true}
+use Rattle.std.proofs.lemmas.Option.{same_Some}
 use Rattle.entry.specs.Access.{permits}
 use Rattle.entry.specs.Layout.{Layout, Lawful}
 use Rattle.entry.specs.declared.TableLevel.{TableLevel}
@@ -13,7 +15,6 @@ use Rattle.model.specs.declared.refusal.Abort.TheVariants.{InvalidEntry, Protect
 use Rattle.model.specs.declared.translation.Tag.{Tag}
 use Rattle.model.specs.declared.translation.Translation.{Translation}
 use Rattle.model.specs.Walk.{found, marked, passed, touched, walk, walk_second}
-use Rattle.laws.proofs.Slots.{some_same}
 use Rattle.laws.proofs.Marking.{Grown, grown_refl, grown_marked, written_there}
 
 -- an entry that lets the access pass
@@ -52,20 +53,20 @@ pub data Touches (l : Layout) (t : TableLevel) (b : Bool) (a e : ℕ) (m : Value
   marks : (g : ℕ) (n : Values) → Touched l t b a e m g n → Touches l t b a e m (Ok g, n)
 
 pub touches : (l : Layout) → Lawful l → (t : TableLevel) (b : Bool) (a e : ℕ) (m : Values) (w : Writable) → m (dword a) ≡ Some e → Touches l t b a e m (touched l t b a e m w)
-touches l laws t b a e m w r = on_mark (eqb (marked l t b e) e) refl (w (dword a)) refl
+touches l laws t b a e m w r = on_mark (marked l t b e == e) refl (w (dword a)) refl
   where
     -- the write of the mark
-    made : w (dword a) ≡ true → eqb (marked l t b e) e ≡ false → Touched l t b a e m (marked l t b e) (written m w (dword a) (marked l t b e))
+    made : w (dword a) ≡ true → marked l t b e == e ≡ false → Touched l t b a e m (marked l t b e) (written m w (dword a) (marked l t b e))
     made can c =
         let stands = written_there m w (dword a) (marked l t b e) e r can in
         record {
           left = refl;
           grown = grown_marked l laws m w t b (dword a) e r can;
           stands = stands;
-          still = λ same. some_same (marked l t b e) e (sym stands ∙ same ∙ r);
+          still = λ same. same_Some (marked l t b e) e (sym stands ∙ same ∙ r);
         }
 
-    on_mark : (c : Bool) → eqb (marked l t b e) e ≡ c → (x : Bool) → w (dword a) ≡ x → Touches l t b a e m (touched l t b a e m w)
+    on_mark : (c : Bool) → marked l t b e == e ≡ c → (x : Bool) → w (dword a) ≡ x → Touches l t b a e m (touched l t b a e m w)
     on_mark true c x _ =
         let same = eqb-true (marked l t b e) e c in
         rw (c, touched) (marks e m (record { left = sym same; grown = grown_refl l m; stands = r; still = λ _. same }))
