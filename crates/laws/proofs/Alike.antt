@@ -19,7 +19,7 @@ use Rattle.model.specs.Calls.{Answer, RunState, effect, flush_open, reply, step,
 use Rattle.model.specs.Edit.{edit, edit_named, named, reached, reached_at, reached_second, rewritten}
 use Rattle.model.specs.Loads.{load}
 use Rattle.model.specs.Registers.{register_of}
-use Rattle.model.specs.States.{Outcome, State}
+use Rattle.model.specs.States.{Outcome, State, answered}
 use Rattle.model.specs.Tlb.{Tlb, base_of, tag_of}
 use Rattle.model.specs.Validation.{validate}
 use Rattle.laws.specs.Likeness.{AlikeUntilStaleSought, Fair, SeeksNoneStale}
@@ -36,11 +36,9 @@ unit_of r k m = record { registers = r; tlb = k; values = m }
 abbrev run_of : Registers → Tlb → Values → List ℕ → RunState
 run_of r k m tokens = record { unit = unit_of r k m; open_tokens = tokens }
 
--- answers put into one type
-abbrev told_as : {A : Type 0} → (A → Answer) → Outcome A → Outcome Answer
-told_as f x = record { answer = f x.answer; registers = x.registers; values = x.values }
-
-same_answering : {A : Type 0} (w u : Writable) (f : A → Answer) (x y : Outcome A) → SameOutcome w u x y → SameOutcome w u (told_as f x) (told_as f y)
+-- answers put among those of all calls
+same_answering : {A : Type 0} (w u : Writable) (f : A → Answer) (x y : Outcome A) → SameOutcome w u x y →
+    SameOutcome w u (answered (f x.answer) x.registers x.values) (answered (f y.answer) y.registers y.values)
 same_answering w u f x y h = record { answer = ap f h.answer; registers = h.registers; memory = h.memory }
 
 current_kept : (l : Layout) (s : State) (tag : Tag) → NoneStale l s tag → KeptCurrent l s tag

@@ -68,9 +68,7 @@ MovesBy l s e = Moves l s e.outcome.registers e.outcome.values e.action
 
 noted_base : (x : Abort) (q : Request) (r : Registers) (t : Tag) → base_of (noted x q r) t ≡ base_of r t
 noted_base Breakpoint q r t = refl
-noted_base (InvalidEntry v a) q r t = refl
-noted_base Protection q r t = refl
-noted_base (EntryRefused v a e) q r t = refl
+noted_base _ q r t = refl
 
 idle : (l : Layout) (s : State) → Moves l s s.registers s.values rest
 idle l s = marks_only s.registers s.values rest (grown_refl l s.values) (λ t _ _. refl) (λ h. h)
@@ -137,17 +135,9 @@ other_space : (r r' : Registers) (t : Tag) → t.space ≤ 1 → t.space == 1 �
 other_space r r' t small stays same = let z : t.space == 0 ≡ true = grind (arith, nat_tests) in rw z same
 
 loaded_moves : (l : Layout) (x : Register) (v : ℕ) (s : State) → Moves l s (loaded l x v s.registers) s.values (load_action l x v s.registers)
-loaded_moves l Bar v s = plainly l s _ _ (λ t. refl) (λ h. h)
-loaded_moves l Bmr v s = plainly l s _ _ (λ t. refl) (λ h. h)
-loaded_moves l Bdr v s = plainly l s _ _ (λ t. refl) (λ h. h)
-loaded_moves l Bear v s = plainly l s _ _ (λ t. refl) (λ h. h)
-loaded_moves l Mcr v s = plainly l s _ _ (λ t. refl) (λ h. h)
-loaded_moves l Msr v s = plainly l s _ _ (λ t. refl) (λ h. h)
-loaded_moves l Tear v s = plainly l s _ _ (λ t. refl) (λ h. h)
 loaded_moves l Ptb0 v s = marks_only _ s.values _ (grown_refl l s.values) (λ t small stays. let e : t.tag.space == 0 ≡ false = stays in rw e) (λ h. h)
 loaded_moves l Ptb1 v s = marks_only _ s.values _ (grown_refl l s.values) (λ t small stays. other_space s.registers (loaded l Ptb1 v s.registers) t.tag small stays refl) (λ h. h)
-loaded_moves l Ivar0 v s = plainly l s _ _ (λ t. refl) (λ h. h)
-loaded_moves l Ivar1 v s = plainly l s _ _ (λ t. refl) (λ h. h)
+loaded_moves l _ v s = plainly l s _ _ (λ t. refl) (λ h. h)
 
 load_moves : (l : Layout) (code v : ℕ) (s : State) → MovesBy l s (load l code v s)
 load_moves l code v s = on (register_of code) refl

@@ -1,6 +1,6 @@
 -- The fields of MSR after an abort and a bus error.
 use Rattle.std.specs.Prelude.{◌==◌, if◌then◌else◌}
-use Rattle.std.proofs.Common.{◌≡◌, ℕ, zero, suc, ◌+◌, ◌-◌, ◌/◌, ◌%◌, ◌^◌, ◌<◌, Bool, true, false, cond, not, ◌||◌, eqb, Some, None, Ok, Err, Option, Result, sym, refl, ap, ◌∙◌, arith}
+use Rattle.std.proofs.Common.{◌≡◌, ℕ, zero, suc, ◌+◌, ◌-◌, ◌*◌, ◌/◌, ◌%◌, ◌^◌, ◌<◌, Bool, true, false, cond, not, ◌||◌, eqb, Some, None, Ok, Err, Option, Result, sym, refl, ap, ◌∙◌, arith, lit<}
 use native.Mathlib.Nat.{mod-mod}
 use lib.Bits.{bit_and, bit_or, and_zero_r}
 use Rattle.std.proofs.lemmas.Nat.{and_mask}
@@ -71,25 +71,23 @@ record Beside (e d : ℕ) (w u : Bool) : Type 0 where
   bit_10 : field 10 1 (e + d) ≡ field 10 1 e
   high : field 11 21 (e + d) ≡ field 11 21 e
 
-beside_none : (e : ℕ) → e / 4 % 4 ≡ 0 → Beside e 0 false false
-beside_none e h = record { ddt = grind (arith, nat_tests); ust = grind (arith, nat_tests); low = grind (arith, nat_tests); middle = grind (arith, nat_tests); bit_8 = grind (arith, nat_tests); bit_9 = grind (arith, nat_tests); bit_10 = grind (arith, nat_tests); high = grind (arith, nat_tests) }
-
-beside_write : (e : ℕ) → e / 4 % 4 ≡ 0 → Beside e 4 true false
-beside_write e h = record { ddt = grind (arith, nat_tests); ust = grind (arith, nat_tests); low = grind (arith, nat_tests); middle = grind (arith, nat_tests); bit_8 = grind (arith, nat_tests); bit_9 = grind (arith, nat_tests); bit_10 = grind (arith, nat_tests); high = grind (arith, nat_tests) }
-
-beside_user : (e : ℕ) → e / 4 % 4 ≡ 0 → Beside e 8 false true
-beside_user e h = record { ddt = grind (arith, nat_tests); ust = grind (arith, nat_tests); low = grind (arith, nat_tests); middle = grind (arith, nat_tests); bit_8 = grind (arith, nat_tests); bit_9 = grind (arith, nat_tests); bit_10 = grind (arith, nat_tests); high = grind (arith, nat_tests) }
-
-beside_both : (e : ℕ) → e / 4 % 4 ≡ 0 → Beside e 12 true true
-beside_both e h = record { ddt = grind (arith, nat_tests); ust = grind (arith, nat_tests); low = grind (arith, nat_tests); middle = grind (arith, nat_tests); bit_8 = grind (arith, nat_tests); bit_9 = grind (arith, nat_tests); bit_10 = grind (arith, nat_tests); high = grind (arith, nat_tests) }
+direction_beside : (e x y : ℕ) → e / 4 % 4 ≡ 0 → x < 2 → y < 2 → Beside e (4 * x + 8 * y) (x == 1) (y == 1)
+direction_beside e x y h i j = record {
+  ddt = grind (arith, nat_tests);
+  ust = grind (arith, nat_tests);
+  low = grind (arith, nat_tests);
+  middle = grind (arith, nat_tests);
+  bit_8 = grind (arith, nat_tests);
+  bit_9 = grind (arith, nat_tests);
+  bit_10 = grind (arith, nat_tests);
+  high = grind (arith, nat_tests);
+}
 
 beside_of : (e : ℕ) → e / 4 % 4 ≡ 0 → (k : AccessKind) (m : Mode) → Beside e ((if is_write k then 0x004 else 0) + (if is_user m then 0x008 else 0)) (is_write k) (is_user m)
-beside_of e h Read Supervisor = beside_none e h
-beside_of e h Read User = beside_user e h
-beside_of e h Write Supervisor = beside_write e h
-beside_of e h Write User = beside_both e h
-beside_of e h ReadModifyWrite Supervisor = beside_none e h
-beside_of e h ReadModifyWrite User = beside_user e h
+beside_of e h Write Supervisor = direction_beside e 1 0 h (lit< tt) (lit< tt)
+beside_of e h Write User = direction_beside e 1 1 h (lit< tt) (lit< tt)
+beside_of e h _ Supervisor = direction_beside e 0 0 h (lit< tt) (lit< tt)
+beside_of e h _ User = direction_beside e 0 1 h (lit< tt) (lit< tt)
 
 is_one : (x y : ℕ) → x ≡ y → (x == 1) ≡ (y == 1)
 is_one x y e = ap (λ z. z == 1) e
@@ -150,9 +148,7 @@ status (EntryRefused t a e) q r = memory_status (EntryRefused t a e) refl refl r
 
 abort_notes : (x : Abort) (q : Request) (r : Registers) → AbortNotes x q r (noted x q r)
 abort_notes Breakpoint q r = record { status = status Breakpoint q r; bdr = refl; tear = refl; bear = refl; others = (refl, refl, refl, refl, refl) }
-abort_notes (InvalidEntry t a) q r = record { status = status (InvalidEntry t a) q r; bdr = refl; tear = refl; bear = refl; others = (refl, refl, refl, refl, refl) }
-abort_notes Protection q r = record { status = status Protection q r; bdr = refl; tear = refl; bear = refl; others = (refl, refl, refl, refl, refl) }
-abort_notes (EntryRefused t a e) q r = record { status = status (EntryRefused t a e) q r; bdr = refl; tear = refl; bear = refl; others = (refl, refl, refl, refl, refl) }
+abort_notes x q r = record { status = status x q r; bdr = refl; tear = refl; bear = refl; others = (refl, refl, refl, refl, refl) }
 
 bus_error_notes : (address : ℕ) (r : Registers) → BusErrorNotes address r (bus_error_noted address r)
 bus_error_notes address r = record {

@@ -30,11 +30,9 @@ use Rattle.laws.proofs.Ways.{AccessWay, SoughtWay, access_refused, access_breaks
 
 -- aborts are no outright refusals
 abort_mild : (x : Abort) → is_outright (abort_report x).number ≡ false
-abort_mild Breakpoint = refl
 abort_mild (InvalidEntry First a) = refl
 abort_mild (InvalidEntry Second a) = refl
-abort_mild Protection = refl
-abort_mild (EntryRefused t a e) = refl
+abort_mild _ = refl
 
 -- nor is what an access answers that looks for its page
 abbrev Mild : Outcome Accessed → Type 0
@@ -113,26 +111,13 @@ edit_exactly l x s w = on (nat_le x.space 1) refl (nat_lt x.page l.page_count) r
     on false a y b = grind (arith, nat_tests)
 
 exactly : (l : Layout) (w : Writable) (s : RunState) (c : Call) → outright_number (answer_number (step l w c s).0) ≡ owed l w s c
-exactly l w s Reset = refl
-exactly l w s (Load code v) = grind (arith, nat_tests)
-exactly l w s (Store code) = grind (arith, nat_tests)
 exactly l w s (Access mode kind address) = access_exactly l mode kind address s.unit w
-exactly l w s (Validate kind address) = grind (arith, nat_tests)
-exactly l w s (BusRead physical address) = grind (arith, nat_tests)
-exactly l w s (BusWrite physical address mask v) = grind (arith, nat_tests)
 exactly l w s (Edit x) = edit_exactly l x s w
-exactly l w s (Flush a) = grind (arith, nat_tests)
+exactly l w s _ = grind (arith, nat_tests)
 
 nothing_altered : (l : Layout) (w : Writable) (s : RunState) (c : Call) → is_outright (answer_number (step l w c s).0) ≡ true → (step l w c s).1 ≡ s
-nothing_altered l w s Reset h = absurd (true≢false (sym h))
-nothing_altered l w s (Load code v) h = grind (arith, nat_tests)
-nothing_altered l w s (Store code) h = grind (arith, nat_tests)
 nothing_altered l w s (Access mode kind address) h = access_alters_nothing l mode kind address s w h
-nothing_altered l w s (Validate kind address) h = grind (arith, nat_tests)
-nothing_altered l w s (BusRead physical address) h = grind (arith, nat_tests)
-nothing_altered l w s (BusWrite physical address mask v) h = grind (arith, nat_tests)
-nothing_altered l w s (Edit x) h = grind (arith, nat_tests)
-nothing_altered l w s (Flush a) h = grind (arith, nat_tests)
+nothing_altered l w s _ h = grind (arith, nat_tests)
 
 pub outright_refusals : (l : Layout) → OutrightRefusals l
 outright_refusals l = record { exactly_owed = exactly l; alter_nothing = nothing_altered l }

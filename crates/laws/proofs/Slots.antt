@@ -21,7 +21,7 @@ pub tag_refl : (t : Tag) → same_tag t t ≡ true
 tag_refl t = grind (arith, nat_tests)
 
 pub tag_false : (t u : Tag) → same_tag t u ≡ false → t ≡ u → ⊥
-tag_false t u h e = let z : true ≡ false = sym (tag_refl u) ∙ ap (λ x. same_tag x u) (sym e) ∙ h in true≢false z
+tag_false t u h e = let z = tag_refl u in cc
 
 -- what stands after dropping stood there before, and is none of those dropped
 pub dropped_some : (which : Which) (o : Option Translation) (t : Translation) → dropped which o ≡ Some t → (o ≡ Some t) × (which t ≡ false)

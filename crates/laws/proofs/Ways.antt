@@ -1,10 +1,12 @@
 -- The ways of each call: what its questions lead to, each with what is known there.
 use Rattle.std.specs.Prelude.{nat_le}
-use Rattle.std.proofs.Common.{◌≡◌, ℕ, zero, suc, Bool, true, false, not, ◌&&◌, Some, None, Ok, Err, Option, Result, refl, arith}
+use Rattle.std.proofs.Common.{◌≡◌, ℕ, Bool, true, false, not, ◌&&◌, Some, None, Ok, Err, Option, Result, refl, arith}
 use Rattle.std.proofs.lemmas.Bool.Decides.{nat_tests}
 use Rattle.entry.specs.Access.{permits}
 use Rattle.entry.specs.Layout.{Layout}
 use Rattle.entry.specs.Bus.{merged}
+use Rattle.entry.specs.declared.access.AccessKind.{AccessKind}
+use Rattle.entry.specs.declared.access.Mode.{Mode}
 use Rattle.physical.specs.Stores.{Writable, WriteOutcome, dword, read_answer, write_answer, written}
 use Rattle.physical.specs.declared.MemoryError.{MemoryError}
 use Rattle.model.specs.declared.call.EditOperands.{EditOperands}
@@ -21,7 +23,7 @@ use Rattle.model.specs.Bus.{bus_error, bus_read, bus_write, is_aligned, is_mask,
 use Rattle.model.specs.Calls.{Answer, RunState, answering, flush_open, is_open}
 use Rattle.model.specs.Edit.{edit, edit_named, flush, named, reached, rewritten}
 use Rattle.model.specs.Refusals.{noted}
-use Rattle.model.specs.Requests.{Gate, stopped, untranslated, looking, access_gate, access_request, breaks, level_of, sought, translate_gate, translates, validation_gate, validation_request}
+use Rattle.model.specs.Requests.{Gate, stopped, untranslated, looking, access_gate, access_request, breaks, kind_of, level_of, mode_of, sought, translate_gate, translates, validation_gate, validation_request}
 use Rattle.model.specs.States.{Effect, State, answered, only_answers}
 use Rattle.model.specs.Tlb.{find, hit, rest}
 
@@ -35,15 +37,12 @@ data AccessRead (mode kind address : ℕ) : Type 0 where
   listed_as : (q : Request) → Asks mode kind address q → AccessRead mode kind address
 
 access_read : (mode kind address : ℕ) → AccessRead mode kind address
-access_read zero zero address = listed_as _ (record { listed = refl; request = refl })
-access_read zero (suc zero) address = listed_as _ (record { listed = refl; request = refl })
-access_read zero (suc (suc zero)) address = listed_as _ (record { listed = refl; request = refl })
-access_read zero (suc (suc (suc kind))) address = unlisted (grind (arith, nat_tests)) (grind (arith, nat_tests))
-access_read (suc zero) zero address = listed_as _ (record { listed = refl; request = refl })
-access_read (suc zero) (suc zero) address = listed_as _ (record { listed = refl; request = refl })
-access_read (suc zero) (suc (suc zero)) address = listed_as _ (record { listed = refl; request = refl })
-access_read (suc zero) (suc (suc (suc kind))) address = unlisted (grind (arith, nat_tests)) (grind (arith, nat_tests))
-access_read (suc (suc mode)) kind address = unlisted (grind (arith, nat_tests)) (grind (arith, nat_tests))
+access_read mode kind address = on (mode_of mode) refl (kind_of kind) refl
+  where
+    on : (m : Option Mode) → mode_of mode ≡ m → (k : Option AccessKind) → kind_of kind ≡ k → AccessRead mode kind address
+    on (Some m) e (Some k) f = listed_as (record { mode = m; kind = k; address = address }) (record { listed = grind (arith, nat_tests); request = rw (e, f) })
+    on (Some m) e None f = unlisted (grind (arith, nat_tests)) (rw (e, f))
+    on None e k f = unlisted (grind (arith, nat_tests)) (rw e)
 
 -- how far an access comes
 pub data AccessWay (mode kind address : ℕ) (r : Registers) : Gate → Type 0 where
