@@ -23,31 +23,16 @@ use Rattle.laws.specs.Outcomes.{SameMemory, SameOutcome, seen}
 
 -- what can be seen of a double-word tells its value
 pub seen_value : (x y : Option ℕ) (b c : Bool) → seen x b ≡ seen y c → x ≡ y
-seen_value None None b c h = refl
-seen_value None (Some y) b c h = absurd cc
-seen_value (Some x) None b c h = absurd cc
-seen_value (Some x) (Some y) b c h = ap Some (some_pair_parts x y b c h).0
+seen_value x y b c h = grind arith
 
 pub dword_small : (a : ℕ) → dword a < 1073741824
 dword_small a = omega arith
 
 seen_write : (x y : Option ℕ) (b c : Bool) → seen x b ≡ seen y c → write_answer x b ≡ write_answer y c
-seen_write None None b c h = refl
-seen_write None (Some y) b c h = absurd cc
-seen_write (Some x) None b c h = absurd cc
-seen_write (Some x) (Some y) b c h = ap (write_answer (Some x)) (some_pair_parts x y b c h).1 ∙ value c
-  where
-    value : (d : Bool) → write_answer (Some x) d ≡ write_answer (Some y) d
-    value true = refl
-    value false = refl
+seen_write x y b c h = grind arith
 
 seen_replaced : (v : ℕ) (x y : Option ℕ) (b c : Bool) → seen x b ≡ seen y c → seen (replaced v x b) b ≡ seen (replaced v y c) c
-seen_replaced v None None b c h = refl
-seen_replaced v None (Some y) b c h = absurd cc
-seen_replaced v (Some x) None b c h = absurd cc
-seen_replaced v (Some x) (Some y) b c h =
-    let (f, e) = some_pair_parts x y b c h in
-    ap₂ (λ p d. seen (replaced v (Some p) d) d) f e
+seen_replaced v x y b c h = grind arith
 
 module _ (w u : Writable) where
   -- the same answer, and equal memories
@@ -128,14 +113,7 @@ module _ (w u : Writable) where
       on (looking q) = same_walk_outcome l q r _ _ (same_walk m n same l (level_of r q) (marks_modified q.kind) (sought l r q) (base_of r (sought l r q)))
 
   same_examine : (m n : Values) → SameMemory m w n u → (l : Layout) (level : ℕ) (tag : Tag) (base : ℕ) → examine l level tag base m ≡ examine l level tag base n
-  same_examine m n same l level tag base = on (n (dword (l.first_entry base tag.page))) refl
-    where
-      second : (c : ℕ) → examine_second l level c m ≡ examine_second l level c n
-      second c = rw (same_read m n same c, examine_second)
-
-      on : (o : Option ℕ) → n (dword (l.first_entry base tag.page)) ≡ o → examine l level tag base m ≡ examine l level tag base n
-      on None e = rw (same_read m n same (l.first_entry base tag.page), examine, e)
-      on (Some f) e = rw (same_read m n same (l.first_entry base tag.page), examine, e, second (l.second_entry (l.frame f) tag.page))
+  same_examine m n same l level tag base = grind (arith, same_read m n same)
 
   pub same_uncached_validate : (l : Layout) (kind address : ℕ) (r : Registers) (m n : Values) → SameMemory m w n u → SameOutcome w u (uncached_validate l kind address r m) (uncached_validate l kind address r n)
   same_uncached_validate l kind address r m n same = on (validation_gate r kind address)

@@ -79,23 +79,7 @@ written_exactly a v s w = grind (arith, nat_tests)
 second_exactly : (l : Layout) (x : EditOperands) (s : State) (w : Writable) →
     outright_number (answer_number (reply Edited (edit_named l (record { space = x.space; level = Second; page = x.page }) x.value s w).outcome.answer))
     ≡ (if entry_can_be_written l s.registers s.values w (record x { level = 2 }) then 0 else 16)
-second_exactly l x s w = on (s.values (dword a)) refl
-  where
-    a : ℕ
-    a = l.first_entry (base_of s.registers (tag_of s.registers x.space x.page)) x.page
-
-    Goal : Type 0
-    Goal =
-        outright_number (answer_number (reply Edited (edit_named l (record { space = x.space; level = Second; page = x.page }) x.value s w).outcome.answer))
-        ≡ (if entry_can_be_written l s.registers s.values w (record x { level = 2 }) then 0 else 16)
-
-    on_valid : (e : ℕ) → s.values (dword a) ≡ Some e → (b : Bool) → l.valid e ≡ b → Goal
-    on_valid e h true b = rw (h, edit_named, reached_second, b) (written_exactly (l.second_entry (l.frame e) x.page) x.value s w)
-    on_valid e h false b = rw (h, edit_named, reached_second, b)
-
-    on : (o : Option ℕ) → s.values (dword a) ≡ o → Goal
-    on None h = rw (h, edit_named, reached_second)
-    on (Some e) h = on_valid e h _ refl
+second_exactly l x s w = grind (arith, nat_tests)
 
 edit_exactly : (l : Layout) (x : EditOperands) (s : RunState) (w : Writable) → outright_number (answer_number (step l w (Edit x) s).0) ≡ owed l w s (Edit x)
 edit_exactly l x s w = on (nat_le x.space 1) refl (nat_lt x.page l.page_count) refl
