@@ -96,11 +96,7 @@ module _ (l : Layout) (laws : Lawful l) (w u : Writable) (r : Registers) (k j : 
       on false b c _ = rw (b, bus_write) (same_answered w u _ r m n same)
 
   same_reached : (x : EntryName) → reached l x r m ≡ reached l x r n
-  same_reached x = on x.level (l.first_entry (base_of r (tag_of r x.space x.page)) x.page)
-    where
-      on : (t : TableLevel) (a : ℕ) → reached_at l t a x.page m ≡ reached_at l t a x.page n
-      on First a = refl
-      on Second a = rw (same_read w u m n same a, reached_second)
+  same_reached x = grind (arith, same_read w u m n same)
 
   same_edit : (x : EditOperands) → SameOutcome w u (edit l x (unit_of r k m) w).outcome (edit l x (unit_of r j n) u).outcome
   same_edit x = on_name (named l x) refl
