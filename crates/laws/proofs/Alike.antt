@@ -1,8 +1,6 @@
 -- Two units with equal registers and memories are alike until something stale is looked for.
 use Rattle.std.proofs.Common.{◌≡◌, ℕ, zero, suc, ◌<◌, ◌≤◌, Bool, true, false, List, [], ◌∷◌, length, Some, None, Ok, Err, Option, Result, sym, refl, ap, ◌∙◌, subst, arith}
 use Rattle.entry.specs.Layout.{Layout, Lawful}
-use Rattle.entry.specs.declared.TableLevel.{TableLevel}
-use Rattle.entry.specs.declared.TableLevel.TheVariants.{First, Second}
 use Rattle.physical.specs.Stores.{Values, Writable, WriteOutcome, dword, read_answer, write_answer}
 use Rattle.physical.specs.declared.MemoryError.{MemoryError}
 use Rattle.model.specs.declared.call.Call.{Call}
@@ -16,11 +14,11 @@ use Rattle.model.specs.declared.translation.Tag.{Tag}
 use Rattle.model.specs.Access.{access}
 use Rattle.model.specs.Bus.{bus_read, bus_write, is_aligned, is_mask, merge_transferred, put_transferred, transferred}
 use Rattle.model.specs.Calls.{Answer, RunState, effect, flush_open, reply, step, translation_reply}
-use Rattle.model.specs.Edit.{edit, edit_named, named, reached, reached_at, reached_second, rewritten}
+use Rattle.model.specs.Edit.{edit, edit_named, named, reached, rewritten}
 use Rattle.model.specs.Loads.{load}
 use Rattle.model.specs.Registers.{register_of}
 use Rattle.model.specs.States.{Outcome, State, answered}
-use Rattle.model.specs.Tlb.{Tlb, base_of, tag_of}
+use Rattle.model.specs.Tlb.{Tlb}
 use Rattle.model.specs.Validation.{validate}
 use Rattle.laws.specs.Likeness.{AlikeUntilStaleSought, Fair, SeeksNoneStale}
 use Rattle.laws.specs.Outcomes.{SameMemory, SameOutcome}

@@ -1,6 +1,6 @@
 -- Where what is kept is current, the unit and the machine that keeps nothing have the same outcomes.
-use Rattle.std.proofs.Common.{◌≡◌, ℕ, ◌<◌, min, Bool, true, false, not, ◌||◌, Some, None, Ok, Err, Option, Result, sym, refl, ap, ◌∙◌, subst, ap₂, arith}
-use Rattle.std.proofs.lemmas.Bool.{eq-eqb, true≢false}
+use Rattle.std.proofs.Common.{◌≡◌, ℕ, min, Bool, true, false, not, Some, None, Ok, Err, Option, refl, arith}
+use Rattle.std.proofs.lemmas.Bool.{eq-eqb}
 use Rattle.std.proofs.lemmas.Bool.Decides.{nat_tests}
 use Rattle.entry.specs.Access.{permits}
 use Rattle.entry.specs.Layout.{Layout, Lawful}
@@ -8,18 +8,16 @@ use Rattle.entry.specs.declared.TableLevel.{TableLevel}
 use Rattle.entry.specs.declared.TableLevel.TheVariants.{First, Second}
 use Rattle.physical.specs.Stores.{Values, Writable}
 use Rattle.model.specs.declared.call.Request.{Request}
-use Rattle.model.specs.declared.refusal.Abort.{Abort}
 use Rattle.model.specs.declared.refusal.Abort.TheVariants.{Protection}
-use Rattle.model.specs.declared.registers.Registers.{Registers}
 use Rattle.model.specs.declared.translation.Hit.{Hit}
 use Rattle.model.specs.declared.translation.Tag.{Tag}
 use Rattle.model.specs.declared.translation.Translation.{Translation}
-use Rattle.model.specs.Access.{Accessed, access, access_kept, access_sought, access_through, needs_mark, uncached_access, uncached_through, walk_outcome, walked}
+use Rattle.model.specs.Access.{access, access_kept, access_sought, access_through, uncached_access, uncached_through, walk_outcome, walked}
 use Rattle.model.specs.Requests.{Gate, stopped, untranslated, looking, access_gate, access_seeks, level_of, marks_modified, seeks_at, sought, validation_gate, validation_seeks}
 use Rattle.model.specs.States.{Outcome, State, answered}
 use Rattle.model.specs.Tlb.{Holds, base_of, find}
-use Rattle.model.specs.Validation.{examine, examine_second, examined, uncached_validate, uncached_validate_through, validate, validate_reading, validate_sought, validate_through}
-use Rattle.model.specs.Walk.{found, marked, passed, touched, walk, walk_second}
+use Rattle.model.specs.Validation.{examine, uncached_validate, uncached_validate_through, validate, validate_reading, validate_sought, validate_through}
+use Rattle.model.specs.Walk.{found, marked, touched, walk}
 use Rattle.laws.specs.Outcomes.{SameOutcome}
 use Rattle.laws.proofs.Currents.{Current, Used}
 use Rattle.laws.proofs.Marking.{marked_again}

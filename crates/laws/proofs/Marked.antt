@@ -1,5 +1,5 @@
 -- A write that is done leaves its page marked modified.
-use Rattle.std.proofs.Common.{◌≡◌, ℕ, Bool, true, false, Some, None, Ok, Err, Result, sym, refl, ap, ◌∙◌, subst, arith}
+use Rattle.std.proofs.Common.{◌≡◌, ℕ, Bool, true, Some, Ok, Err, Result, sym, ap, ◌∙◌, subst}
 use Rattle.std.proofs.lemmas.Option.{none-some, same_Some}
 use Rattle.entry.specs.Layout.{Layout, Lawful}
 use Rattle.entry.specs.declared.TableLevel.TheVariants.{Second}

@@ -1,15 +1,13 @@
 -- Over two equal memories, what reads and writes them has the same outcome.
 use Rattle.std.specs.Prelude.{◌==◌, if◌then◌else◌}
-use Rattle.std.proofs.Common.{◌≡◌, ℕ, ◌<◌, Bool, true, false, cond, eqb, Some, None, Ok, Err, Option, Result, refl, ap, ◌∙◌, subst, ap₂, arith}
-use Rattle.std.proofs.lemmas.Option.{some_pair_parts}
-use Rattle.entry.specs.Access.{permits}
+use Rattle.std.proofs.Common.{◌≡◌, ℕ, ◌<◌, Bool, true, false, Ok, Err, Option, Result, refl, subst, arith}
 use Rattle.entry.specs.Layout.{Layout}
 use Rattle.entry.specs.declared.TableLevel.{TableLevel}
 use Rattle.entry.specs.declared.TableLevel.TheVariants.{First, Second}
 use Rattle.physical.specs.Stores.{Values, Writable, WriteOutcome, dword, replaced, write_answer, written}
 use Rattle.model.specs.declared.call.Request.{Request}
 use Rattle.model.specs.declared.refusal.Abort.{Abort}
-use Rattle.model.specs.declared.refusal.Abort.TheVariants.{EntryRefused, InvalidEntry}
+use Rattle.model.specs.declared.refusal.Abort.TheVariants.{EntryRefused}
 use Rattle.model.specs.declared.registers.Registers.{Registers}
 use Rattle.model.specs.declared.translation.Tag.{Tag}
 use Rattle.model.specs.declared.translation.Translation.{Translation}
@@ -17,7 +15,7 @@ use Rattle.model.specs.Access.{uncached_access, uncached_through, walk_outcome}
 use Rattle.model.specs.Requests.{Gate, stopped, untranslated, looking, access_gate, level_of, marks_modified, sought, validation_gate}
 use Rattle.model.specs.States.{answered}
 use Rattle.model.specs.Tlb.{base_of}
-use Rattle.model.specs.Validation.{examine, examine_second, examined, uncached_validate, uncached_validate_through}
+use Rattle.model.specs.Validation.{examine, examined, uncached_validate, uncached_validate_through}
 use Rattle.model.specs.Walk.{found, marked, passed, touched, walk, walk_second}
 use Rattle.laws.specs.Outcomes.{SameMemory, SameOutcome, seen}
 

@@ -1,34 +1,30 @@
 -- What each call does to the registers, the memory and the kept translations, as far as the laws of runs ask.
 use Rattle.std.specs.Prelude.{◌==◌}
-use Rattle.std.proofs.Common.{◌≡◌, ℕ, ◌≤◌, Bool, true, false, not, ◌||◌, eqb, Some, None, Ok, Err, Option, Result, sym, refl, subst, arith}
+use Rattle.std.proofs.Common.{◌≡◌, ℕ, ◌≤◌, Bool, true, false, Some, None, Ok, Err, Option, Result, sym, refl, subst, arith}
 use Rattle.std.proofs.lemmas.Bool.Decides.{nat_tests}
-use Rattle.entry.specs.Access.{permits}
 use Rattle.entry.specs.Layout.{Layout, Lawful}
-use Rattle.physical.specs.Stores.{Values, Writable, dword, read_answer, write_answer}
-use Rattle.physical.specs.declared.MemoryError.{MemoryError}
+use Rattle.physical.specs.Stores.{Values, Writable}
 use Rattle.model.specs.declared.call.Call.{Call}
 use Rattle.model.specs.declared.call.Call.TheVariants.{Reset, Load, Store, Access, Validate, BusRead, BusWrite, Edit, Flush}
 use Rattle.model.specs.declared.call.EditOperands.{EditOperands}
-use Rattle.model.specs.declared.call.EntryName.{EntryName}
 use Rattle.model.specs.declared.call.Reply.TheVariants.{Done, Edited}
 use Rattle.model.specs.declared.call.Request.{Request}
 use Rattle.model.specs.declared.refusal.Abort.{Abort}
-use Rattle.model.specs.declared.refusal.Abort.TheVariants.{Breakpoint, InvalidEntry, Protection, EntryRefused}
+use Rattle.model.specs.declared.refusal.Abort.TheVariants.{Breakpoint, Protection}
 use Rattle.model.specs.declared.refusal.Refusal.{Refusal}
 use Rattle.model.specs.declared.registers.Register.{Register}
-use Rattle.model.specs.declared.registers.Register.TheVariants.{Bar, Bmr, Bdr, Bear, Mcr, Msr, Tear, Ptb0, Ptb1, Ivar0, Ivar1}
+use Rattle.model.specs.declared.registers.Register.TheVariants.{Ptb0, Ptb1}
 use Rattle.model.specs.declared.registers.Registers.{Registers}
 use Rattle.model.specs.declared.translation.Hit.{Hit}
 use Rattle.model.specs.declared.translation.Tag.{Tag}
 use Rattle.model.specs.declared.translation.Translation.{Translation}
-use Rattle.model.specs.Access.{Accessed, access, access_kept, access_sought, access_through, access_walking, needs_mark, walk_action, walk_outcome}
-use Rattle.model.specs.Bus.{bus_read, bus_write, is_aligned, is_mask, merge_transferred, put_transferred, transferred}
-use Rattle.model.specs.Calls.{Answer, RunState, answering, effect, reply, flush_open, is_open}
-use Rattle.model.specs.Edit.{edit, edit_named, named, reached, rewritten}
+use Rattle.model.specs.Access.{Accessed, access, access_sought, access_through, access_walking, walk_action, walk_outcome}
+use Rattle.model.specs.Bus.{bus_read}
+use Rattle.model.specs.Calls.{Answer, RunState, answering, effect, reply, flush_open}
 use Rattle.model.specs.Loads.{load, load_action}
 use Rattle.model.specs.Refusals.{noted}
 use Rattle.model.specs.Registers.{loaded, register_of}
-use Rattle.model.specs.Requests.{Gate, stopped, untranslated, looking, access_gate, access_request, breaks, level_of, marks_modified, sought, space_of, translate_gate, translates, validation_gate, validation_request}
+use Rattle.model.specs.Requests.{Gate, level_of, marks_modified, sought, space_of}
 use Rattle.model.specs.States.{Effect, State}
 use Rattle.model.specs.Tlb.{TlbAction, rest, hit, drop, fill, base_of, find}
 use Rattle.model.specs.Validation.{examined, validate, validate_sought, validate_through}

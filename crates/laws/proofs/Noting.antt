@@ -1,27 +1,25 @@
 -- The fields of MSR after an abort and a bus error.
 use Rattle.std.specs.Prelude.{◌==◌, if◌then◌else◌}
-use Rattle.std.proofs.Common.{◌≡◌, ℕ, zero, suc, ◌+◌, ◌-◌, ◌*◌, ◌/◌, ◌%◌, ◌^◌, ◌<◌, Bool, true, false, cond, not, ◌||◌, eqb, Some, None, Ok, Err, Option, Result, sym, refl, ap, ◌∙◌, arith, lit<}
+use Rattle.std.proofs.Common.{◌≡◌, ℕ, ◌+◌, ◌-◌, ◌*◌, ◌/◌, ◌%◌, ◌^◌, ◌<◌, Bool, true, false, ◌||◌, Some, None, Ok, Err, Option, Result, sym, refl, ap, ◌∙◌, arith, lit<}
 use native.Mathlib.Nat.{mod-mod}
 use lib.Bits.{bit_and, bit_or, and_zero_r}
 use Rattle.std.proofs.lemmas.Nat.{and_mask}
 use Rattle.std.proofs.lemmas.Bool.{true≢false}
 use Rattle.std.proofs.lemmas.Bool.Decides.{nat_tests}
-use Rattle.entry.specs.Access.{is_user, permits}
+use Rattle.entry.specs.Access.{is_user}
 use Rattle.entry.specs.Layout.{Layout}
 use Rattle.entry.specs.Bits.{field, flag}
 use Rattle.entry.specs.declared.TableLevel.TheVariants.{First, Second}
 use Rattle.entry.specs.declared.access.AccessKind.{AccessKind}
-use Rattle.entry.specs.declared.access.AccessKind.TheVariants.{Read, Write, ReadModifyWrite}
+use Rattle.entry.specs.declared.access.AccessKind.TheVariants.{Write}
 use Rattle.entry.specs.declared.access.Mode.{Mode}
 use Rattle.entry.specs.declared.access.Mode.TheVariants.{Supervisor, User}
 use Rattle.entry.proofs.Bitwise.{and_field, beside, or_field}
-use Rattle.entry.specs.Bus.{merged}
-use Rattle.physical.specs.Stores.{Values, Writable, WriteOutcome, dword, read_answer, write_answer}
+use Rattle.physical.specs.Stores.{Values, Writable}
 use Rattle.physical.specs.declared.MemoryError.{MemoryError}
 use Rattle.model.specs.declared.call.Call.{Call}
 use Rattle.model.specs.declared.call.Call.TheVariants.{Reset, Load, Store, Access, Validate, BusRead, BusWrite, Edit, Flush}
 use Rattle.model.specs.declared.call.EditOperands.{EditOperands}
-use Rattle.model.specs.declared.call.EntryName.{EntryName}
 use Rattle.model.specs.declared.call.Reply.{Reply}
 use Rattle.model.specs.declared.call.Reply.TheVariants.{Done, Edited, Flag, Flushed, NotOpen, Translated, Value}
 use Rattle.model.specs.declared.call.Request.{Request}
@@ -33,12 +31,11 @@ use Rattle.model.specs.declared.registers.Registers.{Registers}
 use Rattle.model.specs.declared.translation.Hit.{Hit}
 use Rattle.model.specs.declared.translation.Translation.{Translation}
 use Rattle.model.specs.Access.{Accessed, access, access_sought, access_through, walk_outcome, walked}
-use Rattle.model.specs.Bus.{bus_read, bus_write, is_aligned, is_mask, merge_transferred, put_transferred, transferred}
+use Rattle.model.specs.Bus.{bus_read, bus_write}
 use Rattle.model.specs.Calls.{Answer, RunState, flush_open, reply, translation_reply}
-use Rattle.model.specs.Edit.{edit, edit_named, named, reached, rewritten}
+use Rattle.model.specs.Edit.{edit}
 use Rattle.model.specs.Loads.{store_answer}
-use Rattle.model.specs.Registers.{translate_user}
-use Rattle.model.specs.Requests.{Gate, access_gate, access_request, breaks, level_of, marks_modified, sought, translate_gate, translates, validation_gate, validation_request}
+use Rattle.model.specs.Requests.{Gate, sought}
 use Rattle.model.specs.States.{Effect, Outcome, State}
 use Rattle.model.specs.Tlb.{find}
 use Rattle.model.specs.Validation.{examined, validate, validate_sought, validate_through}

@@ -1,7 +1,7 @@
 -- Where the unit and the machine that keeps nothing have the same outcomes, what is kept is current: accesses and
 -- validations under a few settings tell all that is in it.
 use Rattle.std.specs.Prelude.{if◌then◌else◌}
-use Rattle.std.proofs.Common.{◌≡◌, ℕ, zero, suc, ◌*◌, ◌^◌, ◌<◌, ◌≤◌, min, Bool, true, false, cond, not, ◌&&◌, ◌||◌, Some, Ok, Err, Result, sym, refl, ap, ◌∙◌, subst, mul-lt-mul_of_pos_right, arith, lit<}
+use Rattle.std.proofs.Common.{◌≡◌, ℕ, zero, suc, ◌*◌, ◌^◌, ◌<◌, ◌≤◌, min, Bool, true, false, not, ◌&&◌, Some, Ok, Err, Result, sym, refl, ap, ◌∙◌, subst, mul-lt-mul_of_pos_right, arith, lit<}
 use Rattle.std.proofs.lemmas.Bool.Decides.{nat_tests}
 use Rattle.entry.specs.Access.{access_level, permits}
 use Rattle.entry.specs.Bits.{flag}

@@ -1,30 +1,27 @@
 -- Calls are refused outright exactly where that is owed, and then nothing is altered.
 use Rattle.std.specs.Prelude.{◌==◌, if◌then◌else◌, nat_le, nat_lt}
-use Rattle.std.proofs.Common.{◌≡◌, ℕ, Bool, true, false, ◌&&◌, Some, None, Ok, Err, Option, Result, sym, refl, ◌∙◌, arith}
+use Rattle.std.proofs.Common.{◌≡◌, ℕ, Bool, true, false, ◌&&◌, Ok, Err, Result, sym, refl, ◌∙◌, arith}
 use Rattle.std.proofs.lemmas.Bool.{eqb-true, true≢false}
 use Rattle.std.proofs.lemmas.Bool.Decides.{nat_tests}
-use Rattle.entry.specs.Access.{permits}
 use Rattle.entry.specs.Layout.{Layout}
 use Rattle.entry.specs.declared.TableLevel.TheVariants.{First, Second}
-use Rattle.physical.specs.Stores.{Values, Writable, dword}
+use Rattle.physical.specs.Stores.{Values, Writable}
 use Rattle.model.specs.declared.call.Call.{Call}
-use Rattle.model.specs.declared.call.Call.TheVariants.{Reset, Load, Store, Access, Validate, BusRead, BusWrite, Edit, Flush}
+use Rattle.model.specs.declared.call.Call.TheVariants.{Access, Edit}
 use Rattle.model.specs.declared.call.EditOperands.{EditOperands}
 use Rattle.model.specs.declared.call.Reply.TheVariants.{Edited}
 use Rattle.model.specs.declared.call.Request.{Request}
 use Rattle.model.specs.declared.refusal.Abort.{Abort}
-use Rattle.model.specs.declared.refusal.Abort.TheVariants.{Breakpoint, InvalidEntry, Protection, EntryRefused}
-use Rattle.model.specs.declared.refusal.Refusal.TheVariants.{BadAccess}
+use Rattle.model.specs.declared.refusal.Abort.TheVariants.{InvalidEntry}
 use Rattle.model.specs.declared.registers.Registers.{Registers}
-use Rattle.model.specs.declared.translation.Hit.{Hit}
 use Rattle.model.specs.declared.translation.Translation.{Translation}
 use Rattle.model.specs.Access.{Accessed, access, access_sought, access_through, walk_outcome, walked}
 use Rattle.model.specs.Calls.{RunState, answer_number, reply, step, translation_reply}
-use Rattle.model.specs.Edit.{edit, edit_named, reached_second, rewritten}
+use Rattle.model.specs.Edit.{edit, edit_named, rewritten}
 use Rattle.model.specs.Refusals.{abort_report}
 use Rattle.model.specs.Requests.{Gate}
 use Rattle.model.specs.States.{Effect, Outcome, State, state_after}
-use Rattle.model.specs.Tlb.{base_of, find, tag_of}
+use Rattle.model.specs.Tlb.{base_of, tag_of}
 use Rattle.laws.specs.Refusing.{OutrightRefusals, can_be_written, entry_can_be_written, is_outright, owed, outright_number}
 use Rattle.laws.proofs.Ways.{AccessWay, SoughtWay, access_refused, access_breaks, access_passes, access_looks, access_way, walked_for, barred, served, sought_way}
 

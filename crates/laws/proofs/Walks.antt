@@ -1,6 +1,6 @@
 -- The ways of a walk, each with what is known there.
 use Rattle.std.specs.Prelude.{◌==◌}
-use Rattle.std.proofs.Common.{◌≡◌, ℕ, Bool, true, false, eqb, Some, None, Ok, Err, Option, Result, sym, refl, ◌∙◌, arith}
+use Rattle.std.proofs.Common.{◌≡◌, ℕ, Bool, true, false, Some, Ok, Err, Result, sym, refl, ◌∙◌, arith}
 use Rattle.std.proofs.lemmas.Bool.{eqb-true}
 use Rattle.std.proofs.lemmas.Option.{same_Some}
 use Rattle.entry.specs.Access.{permits}
@@ -8,10 +8,10 @@ use Rattle.entry.specs.Layout.{Layout, Lawful}
 use Rattle.entry.specs.declared.TableLevel.{TableLevel}
 use Rattle.entry.specs.declared.TableLevel.TheVariants.{First, Second}
 use Rattle.physical.specs.Stores.{Values, Writable, dword, written}
-use Rattle.physical.specs.declared.MemoryError.TheVariants.{Absent, ReadOnly}
+use Rattle.physical.specs.declared.MemoryError.TheVariants.{ReadOnly}
 use Rattle.physical.proofs.Written.{one_write}
 use Rattle.model.specs.declared.refusal.Abort.{Abort}
-use Rattle.model.specs.declared.refusal.Abort.TheVariants.{InvalidEntry, Protection, EntryRefused}
+use Rattle.model.specs.declared.refusal.Abort.TheVariants.{EntryRefused}
 use Rattle.model.specs.declared.translation.Tag.{Tag}
 use Rattle.model.specs.declared.translation.Translation.{Translation}
 use Rattle.model.specs.Walk.{found, marked, passed, touched, walk, walk_second}

@@ -1,5 +1,5 @@
 -- The calls that are refused outright, and what for.
-use Rattle.std.specs.Prelude.{◌≡◌, ℕ, ◌%◌, Bool, true, false, not, ◌&&◌, ◌||◌, List, [], ◌∷◌, is_some, Some, None, if◌then◌else◌, ◌==◌, nat_eq, nat_le, nat_lt, IsTrue}
+use Rattle.std.specs.Prelude.{◌≡◌, ℕ, ◌%◌, Bool, false, not, ◌&&◌, ◌||◌, List, [], ◌∷◌, is_some, Some, None, if◌then◌else◌, ◌==◌, nat_eq, nat_le, nat_lt, IsTrue}
 use Rattle.std.specs.Set.{is_member}
 use Rattle.entry.specs.Layout.{Layout}
 use Rattle.physical.specs.Stores.{Values, Writable, dword}

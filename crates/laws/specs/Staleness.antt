@@ -3,7 +3,7 @@ use Rattle.std.specs.Prelude.{◌≡◌, ℕ, ◌<◌, Bool, true, false, ◌⊎
 use Rattle.entry.specs.Layout.{Layout}
 use Rattle.physical.specs.Stores.{Values, Writable, dword}
 use Rattle.model.specs.declared.call.Call.{Call}
-use Rattle.model.specs.declared.call.Call.TheVariants.{Reset, Load, Store, Access, Validate, BusRead, BusWrite, Edit, Flush}
+use Rattle.model.specs.declared.call.Call.TheVariants.{BusWrite, Edit}
 use Rattle.model.specs.declared.translation.Translation.{Translation}
 use Rattle.model.specs.Calls.{RunState, after, effect, start, step}
 use Rattle.model.specs.Currency.{current}

@@ -1,5 +1,5 @@
 -- Transparency: that what is kept cannot be told from what a walk finds.
-use Rattle.std.specs.Prelude.{◌≡◌, ℕ, ◌*◌, ◌^◌, ◌<◌, ◌≤◌, Bool, true, false, ◌↔◌, List, Some, None, Ok, Option, IsTrue}
+use Rattle.std.specs.Prelude.{◌≡◌, ℕ, ◌*◌, ◌^◌, ◌<◌, ◌≤◌, Bool, false, ◌↔◌, List, Some, None, Ok, Option, IsTrue}
 use Rattle.entry.specs.Layout.{Layout}
 use Rattle.physical.specs.Stores.{Values, Writable}
 use Rattle.model.specs.declared.call.Call.{Call}

@@ -4,7 +4,7 @@ use Rattle.entry.specs.Access.{is_user}
 use Rattle.entry.specs.declared.TableLevel.{TableLevel}
 use Rattle.entry.specs.declared.TableLevel.TheVariants.{First, Second}
 use Rattle.entry.specs.declared.access.AccessKind.{AccessKind}
-use Rattle.entry.specs.declared.access.AccessKind.TheVariants.{Read, Write, ReadModifyWrite}
+use Rattle.entry.specs.declared.access.AccessKind.TheVariants.{Write}
 use Rattle.physical.specs.Stores.{reason_number}
 use Rattle.model.specs.declared.call.Request.{Request}
 use Rattle.model.specs.declared.refusal.Abort.{Abort}
