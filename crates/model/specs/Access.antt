@@ -27,7 +27,7 @@ physical_of l t address = (l.physical t.frame (l.offset address), t.inhibit)
 
 -- an abort answers, and notes itself in the registers
 abbrev pub aborted : {A : Type 0} → Abort → Request → Registers → Values → Outcome (Result A Refusal)
-aborted x q r m = record { answer = Err (Aborted x); registers = noted x q r; values = m }
+aborted x q r m = answered (Err (Aborted x)) (noted x q r) m
 
 -- the walk of a request
 abbrev pub walked : Layout → Request → Registers → Values → Writable → Result Translation Abort × Values

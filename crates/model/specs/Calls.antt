@@ -35,7 +35,7 @@ is_open a tokens = is_member nat_eq tokens a
 abbrev pub spent : ℕ → List ℕ → List ℕ
 spent a tokens = remove_key (nat_eq a) tokens
 
--- the answers of the several calls as one type
+-- an answer put among those of all calls: f makes a reply of what is done
 abbrev pub reply : {A : Type 0} → (A → Reply) → Result A Refusal → Answer
 reply f (Ok x) = Ok (f x)
 reply f (Err x) = Err x
@@ -48,6 +48,7 @@ abbrev pub answer_number : Answer → ℕ
 answer_number (Ok x) = 0
 answer_number (Err x) = (report_of x).number
 
+-- the same of what a call does
 abbrev pub answering : {A : Type 0} → (A → Answer) → Effect A → Effect Answer
 answering f e = record { outcome = answered (f e.outcome.answer) e.outcome.registers e.outcome.values; action = e.action }
 
