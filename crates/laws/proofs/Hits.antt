@@ -12,11 +12,11 @@ use Rattle.model.specs.declared.refusal.Abort.TheVariants.{Protection}
 use Rattle.model.specs.declared.translation.Hit.{Hit}
 use Rattle.model.specs.declared.translation.Tag.{Tag}
 use Rattle.model.specs.declared.translation.Translation.{Translation}
-use Rattle.model.specs.Access.{access, access_kept, access_sought, access_through, uncached_access, uncached_through, walk_outcome, walked}
+use Rattle.model.specs.Access.{access, access_found, access_kept, access_sought, access_through, uncached_access, uncached_through, walk_outcome, walked}
 use Rattle.model.specs.Requests.{Gate, stopped, untranslated, looking, access_gate, access_seeks, level_of, marks_modified, seeks_at, sought, validation_gate, validation_seeks}
 use Rattle.model.specs.States.{Outcome, State, answered}
 use Rattle.model.specs.Tlb.{Holds, base_of, find}
-use Rattle.model.specs.Validation.{examine, uncached_validate, uncached_validate_through, validate, validate_reading, validate_sought, validate_through}
+use Rattle.model.specs.Validation.{examine, uncached_validate, uncached_validate_through, validate, validate_found, validate_reading, validate_through}
 use Rattle.model.specs.Walk.{found, marked, touched, walk}
 use Rattle.laws.specs.Outcomes.{SameOutcome}
 use Rattle.laws.proofs.Currents.{Current, Used}
@@ -82,9 +82,9 @@ module _ (l : Layout) (laws : Lawful l) (w : Writable) (s : State) where
   sought_same : (q : Request) → KeptCurrent l s (sought l s.registers q) → (access_sought l q s w).outcome ≡ walk_outcome l q s.registers (walked l q s.registers s.values w)
   sought_same q kept = on (find (sought l s.registers q) s.tlb.slots) refl
     where
-      on : (o : Option Hit) → find (sought l s.registers q) s.tlb.slots ≡ o → (access_sought l q s w).outcome ≡ walk_outcome l q s.registers (walked l q s.registers s.values w)
-      on None e = rw (e, access_sought) refl
-      on (Some h) e = let (tagged, c) = found_current q kept h e in rw (e, access_sought) (kept_same l laws w s q h tagged c)
+      on : (o : Option Hit) → find (sought l s.registers q) s.tlb.slots ≡ o → (access_found l q o s w).outcome ≡ walk_outcome l q s.registers (walked l q s.registers s.values w)
+      on None e = refl
+      on (Some h) e = let (tagged, c) = found_current q kept h e in kept_same l laws w s q h tagged c
 
   pub access_same : (mode kind address : ℕ) → ((tag : Tag) → access_seeks l s.registers mode kind address ≡ Some tag → KeptCurrent l s tag) →
       (access l mode kind address s w).outcome ≡ uncached_access l mode kind address s.registers s.values w
@@ -100,9 +100,9 @@ module _ (l : Layout) (laws : Lawful l) (w : Writable) (s : State) where
   validation_same kind address = on (validation_gate s.registers kind address)
     where
       on_find : (q : Request) → KeptCurrent l s (sought l s.registers q) → (o : Option Hit) → find (sought l s.registers q) s.tlb.slots ≡ o →
-          validate_sought l q s.registers s.tlb.slots s.values ≡ validate_reading l q s.registers s.values
-      on_find q kept None e = rw (e, validate_sought) refl
-      on_find q kept (Some h) e = let (tagged, c) = found_current q kept h e in rw (e, validate_sought) (validate_same l laws w s q h tagged c)
+          validate_found l q o s.registers s.values ≡ validate_reading l q s.registers s.values
+      on_find q kept None e = refl
+      on_find q kept (Some h) e = let (tagged, c) = found_current q kept h e in validate_same l laws w s q h tagged c
 
       on : (g : Gate) → ((tag : Tag) → seeks_at l s.registers g ≡ Some tag → KeptCurrent l s tag) →
           validate_through l g s.registers s.tlb.slots s.values ≡ uncached_validate_through l g s.registers s.values

@@ -1,13 +1,12 @@
 -- Over two equal memories, what reads and writes them has the same outcome.
 use Rattle.std.specs.Prelude.{◌==◌, if◌then◌else◌}
-use Rattle.std.proofs.Common.{◌≡◌, ℕ, ◌<◌, Bool, true, false, Ok, Err, Option, Result, refl, subst, arith}
+use Rattle.std.proofs.Common.{ap, ◌≡◌, ℕ, ◌<◌, Bool, true, false, Ok, Err, Option, Result, refl, subst, arith}
 use Rattle.entry.specs.Layout.{Layout}
 use Rattle.entry.specs.declared.TableLevel.{TableLevel}
 use Rattle.entry.specs.declared.TableLevel.TheVariants.{First, Second}
-use Rattle.physical.specs.Stores.{Values, Writable, WriteOutcome, dword, replaced, write_answer, written}
+use Rattle.physical.specs.Stores.{Values, Writable, dword, replaced, write_answer, written}
 use Rattle.model.specs.declared.call.Request.{Request}
 use Rattle.model.specs.declared.refusal.Abort.{Abort}
-use Rattle.model.specs.declared.refusal.Abort.TheVariants.{EntryRefused}
 use Rattle.model.specs.declared.registers.Registers.{Registers}
 use Rattle.model.specs.declared.translation.Tag.{Tag}
 use Rattle.model.specs.declared.translation.Translation.{Translation}
@@ -16,7 +15,7 @@ use Rattle.model.specs.Requests.{Gate, stopped, untranslated, looking, access_ga
 use Rattle.model.specs.States.{answered}
 use Rattle.model.specs.Tlb.{base_of}
 use Rattle.model.specs.Validation.{examine, examined, uncached_validate, uncached_validate_through}
-use Rattle.model.specs.Walk.{found, marked, passed, touched, walk, walk_second}
+use Rattle.model.specs.Walk.{and_then, marked, passed, touched, walk, walk_second}
 use Rattle.laws.specs.Outcomes.{SameMemory, SameOutcome, seen}
 
 -- what can be seen of a double-word tells its value
@@ -51,47 +50,29 @@ module _ (w u : Writable) where
         on true = seen_replaced v (m q) (n q) (w q) (u q) (same q small)
         on false = same q small
 
-    same_passed : (l : Layout) (t : TableLevel) (level a : ℕ) → passed l t level a m ≡ passed l t level a n
-    same_passed l t level a = rw (same_read a, passed)
-
     same_touched : (l : Layout) (t : TableLevel) (b : Bool) (a e : ℕ) → SamePair (touched l t b a e m w) (touched l t b a e n u)
     same_touched l t b a e = on (marked l t b e == e) refl
       where
-        on_write : (x : WriteOutcome) → SamePair {A = Result ℕ Abort}
-            (elim x [ Ok _ ↦ (Ok (marked l t b e), written m w (dword a) (marked l t b e)) | Err reason ↦ (Err (EntryRefused t a reason), written m w (dword a) (marked l t b e)) ])
-            (elim x [ Ok _ ↦ (Ok (marked l t b e), written n u (dword a) (marked l t b e)) | Err reason ↦ (Err (EntryRefused t a reason), written n u (dword a) (marked l t b e)) ])
-        on_write (Ok _) = (refl, same_written (dword a) (marked l t b e))
-        on_write (Err reason) = (refl, same_written (dword a) (marked l t b e))
-
         on : (c : Bool) → marked l t b e == e ≡ c → SamePair (touched l t b a e m w) (touched l t b a e n u)
         on true c = rw (c, touched) (refl, same)
-        on false c = rw (c, touched, same_write a) (on_write (write_answer (n (dword a)) (u (dword a))))
+        on false c = rw (c, touched, same_write a) (refl, same_written (dword a) (marked l t b e))
 
-    same_second : (l : Layout) (level : ℕ) (b : Bool) (tag : Tag) (a e c : ℕ) → SamePair (walk_second l level b tag a e c m w) (walk_second l level b tag a e c n u)
-    same_second l level b tag a e c = on (passed l Second level c n) refl
-      where
-        on_touched : (x y : Result ℕ Abort × Values) → SamePair x y → SamePair {A = Result Translation Abort}
-            (elim x.0 [ Err z ↦ (Err z, x.1) | Ok g ↦ (Ok (found l tag a e c g), x.1) ])
-            (elim y.0 [ Err z ↦ (Err z, y.1) | Ok g ↦ (Ok (found l tag a e c g), y.1) ])
-        on_touched (Err z, x) (y, y') (h, s) = rw (← h) (refl, s)
-        on_touched (Ok g, x) (y, y') (h, s) = rw (← h) (refl, s)
+  -- steps that are the same, and followed by the same
+  same_then : {A B : Type 0} (x y : Result A Abort × Values) (f g : A → Values → Result B Abort × Values) → SamePair x y →
+      ((z : A) (m n : Values) → SameMemory m w n u → SamePair (f z m) (g z n)) → SamePair (and_then x f) (and_then y g)
+  same_then (Ok z, m) (y, n) f g (h, s) next = rw (← h) (next z m n s)
+  same_then (Err z, m) (y, n) f g (h, s) next = rw (← h) (refl, s)
 
-        on : (o : Result ℕ Abort) → passed l Second level c n ≡ o → SamePair (walk_second l level b tag a e c m w) (walk_second l level b tag a e c n u)
-        on (Err z) p = rw (same_passed l Second level c, walk_second, p) (refl, same)
-        on (Ok f) p = rw (same_passed l Second level c, walk_second, p) (on_touched _ _ (same_touched l Second b c f))
+  same_second : (m n : Values) → SameMemory m w n u → (l : Layout) (level : ℕ) (b : Bool) (tag : Tag) (a e c : ℕ) → SamePair (walk_second l level b tag a e c m w) (walk_second l level b tag a e c n u)
+  same_second m n same l level b tag a e c =
+      same_then _ _ _ _ (ap (passed l Second level c) (same_read m n same c), same) (λ f p q s.
+      same_then _ _ _ _ (same_touched p q s l Second b c f) (λ g p' q' s'. (refl, s')))
 
   same_walk : (m n : Values) → SameMemory m w n u → (l : Layout) (level : ℕ) (b : Bool) (tag : Tag) (base : ℕ) → SamePair (walk l level b tag base m w) (walk l level b tag base n u)
-  same_walk m n same l level b tag base = on (passed l First level (l.first_entry base tag.page) n) refl
-    where
-      on_touched : (x y : Result ℕ Abort × Values) → SamePair x y → SamePair {A = Result Translation Abort}
-          (elim x.0 [ Err z ↦ (Err z, x.1) | Ok g ↦ walk_second l level b tag (l.first_entry base tag.page) g (l.second_entry (l.frame g) tag.page) x.1 w ])
-          (elim y.0 [ Err z ↦ (Err z, y.1) | Ok g ↦ walk_second l level b tag (l.first_entry base tag.page) g (l.second_entry (l.frame g) tag.page) y.1 u ])
-      on_touched (Err z, x) (y, y') (h, s) = rw (← h) (refl, s)
-      on_touched (Ok g, x) (y, y') (h, s) = rw (← h) (same_second x y' s l level b tag (l.first_entry base tag.page) g (l.second_entry (l.frame g) tag.page))
-
-      on : (o : Result ℕ Abort) → passed l First level (l.first_entry base tag.page) n ≡ o → SamePair (walk l level b tag base m w) (walk l level b tag base n u)
-      on (Err z) p = rw (same_passed m n same l First level (l.first_entry base tag.page), walk, p) (refl, same)
-      on (Ok e) p = rw (same_passed m n same l First level (l.first_entry base tag.page), walk, p) (on_touched _ _ (same_touched m n same l First false (l.first_entry base tag.page) e))
+  same_walk m n same l level b tag base =
+      let a = l.first_entry base tag.page in
+      same_then _ _ _ _ (ap (passed l First level a) (same_read m n same a), same) (λ e p q s.
+      same_then _ _ _ _ (same_touched p q s l First false a e) (λ g p' q' s'. same_second p' q' s' l level b tag a g (l.second_entry (l.frame g) tag.page)))
 
   -- equal ends of walks have equal outcomes
   same_walk_outcome : (l : Layout) (q : Request) (r : Registers) (x y : Result Translation Abort × Values) → SamePair x y → SameOutcome w u (walk_outcome l q r x) (walk_outcome l q r y)

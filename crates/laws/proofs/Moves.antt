@@ -21,13 +21,13 @@ use Rattle.model.specs.declared.translation.Translation.{Translation}
 use Rattle.model.specs.Access.{Accessed, access, access_sought, access_through, access_walking, walk_action, walk_outcome}
 use Rattle.model.specs.Bus.{bus_read}
 use Rattle.model.specs.Calls.{Answer, RunState, answering, effect, reply, flush_open}
-use Rattle.model.specs.Loads.{load, load_action}
+use Rattle.model.specs.Loads.{load, load_action, load_named}
 use Rattle.model.specs.Refusals.{noted}
 use Rattle.model.specs.Registers.{loaded, register_of}
 use Rattle.model.specs.Requests.{Gate, level_of, marks_modified, sought, space_of}
 use Rattle.model.specs.States.{Effect, State}
-use Rattle.model.specs.Tlb.{TlbAction, rest, hit, drop, fill, base_of, find}
-use Rattle.model.specs.Validation.{examined, validate, validate_sought, validate_through}
+use Rattle.model.specs.Tlb.{TlbAction, rest, hit, drop, fill, base_of}
+use Rattle.model.specs.Validation.{examined, validate, validate_found, validate_through}
 use Rattle.laws.specs.Staleness.{is_writer}
 use Rattle.laws.proofs.Marking.{Grown, grown_refl}
 use Rattle.laws.proofs.Walks.{halts, ends, walks}
@@ -111,16 +111,15 @@ validate_moves l kind address s = on _ (validation_way kind address s.registers)
     on_examined q (Ok flag) = idle l s
     on_examined q (Err x) = noting l s x q
 
-    on_find : (q : Request) → (o : Option Hit) → find (sought l s.registers q) s.tlb.slots ≡ o →
-        Moves l s (validate_sought l q s.registers s.tlb.slots s.values).registers (validate_sought l q s.registers s.tlb.slots s.values).values rest
-    on_find q None e = rw (e, validate_sought) (on_examined q _)
-    on_find q (Some h) e = rw (e, validate_sought) (idle l s)
+    on_find : (q : Request) → (o : Option Hit) → Moves l s (validate_found l q o s.registers s.values).registers (validate_found l q o s.registers s.values).values rest
+    on_find q None = on_examined q _
+    on_find q (Some h) = idle l s
 
     on : (g : Gate) → ValidationWay kind address s.registers g →
         Moves l s (validate_through l g s.registers s.tlb.slots s.values).registers (validate_through l g s.registers s.tlb.slots s.values).values rest
     on _ validation_refused = idle l s
     on _ (validation_passes q _) = idle l s
-    on _ (validation_looks q _) = on_find q _ refl
+    on _ (validation_looks q _) = on_find q _
 
 -- a register that no base lies in
 plainly : (l : Layout) (s : State) (r : Registers) (a : TlbAction) → ((t : Tag) → base_of r t ≡ base_of s.registers t) → (Fills a → ⊥) → Moves l s r s.values a
@@ -136,11 +135,11 @@ loaded_moves l Ptb1 v s = marks_only _ s.values _ (grown_refl l s.values) (λ t 
 loaded_moves l _ v s = plainly l s _ _ (λ t. refl) (λ h. h)
 
 load_moves : (l : Layout) (code v : ℕ) (s : State) → MovesBy l s (load l code v s)
-load_moves l code v s = on (register_of code) refl
+load_moves l code v s = on (register_of code)
   where
-    on : (o : Option Register) → register_of code ≡ o → MovesBy l s (load l code v s)
-    on None e = rw (e, load) (idle l s)
-    on (Some x) e = rw (e, load) (loaded_moves l x v s)
+    on : (o : Option Register) → MovesBy l s (load_named l o v s)
+    on None = idle l s
+    on (Some x) = loaded_moves l x v s
 
 bus_read_moves : (l : Layout) (physical address : ℕ) (s : State) → MovesBy l s (bus_read physical address s)
 bus_read_moves l physical address s = on _ (bus_read_way physical address s)

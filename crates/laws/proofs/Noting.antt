@@ -35,10 +35,9 @@ use Rattle.model.specs.Bus.{bus_read, bus_write}
 use Rattle.model.specs.Calls.{Answer, RunState, flush_open, reply, translation_reply}
 use Rattle.model.specs.Edit.{edit}
 use Rattle.model.specs.Loads.{store_answer}
-use Rattle.model.specs.Requests.{Gate, sought}
+use Rattle.model.specs.Requests.{Gate}
 use Rattle.model.specs.States.{Effect, Outcome, State}
-use Rattle.model.specs.Tlb.{find}
-use Rattle.model.specs.Validation.{examined, validate, validate_sought, validate_through}
+use Rattle.model.specs.Validation.{examined, validate, validate_found, validate_through}
 use Rattle.model.specs.Refusals.{bus_error_noted, direction_and_mode, is_write, noted, with_bits}
 use Rattle.laws.specs.Notes.{AbortNotes, AbortStatus, BusErrorNotes, Notes, RegisterNotes, is_breakpoint, is_memory_abort, of_abort, of_bus_error, of_none, request_of, served_address, tex_after}
 use Rattle.laws.proofs.Ways.{AccessWay, ValidationWay, SoughtWay, BusReadWay, BusWriteWay, EditWay, FlushWay, access_refused, access_breaks, access_passes, access_looks, access_way, validation_refused, validation_passes, validation_looks, validation_way, walked_for, barred, served, sought_way, read_misaligned, read_refused, read_done, bus_read_way, write_misaligned, write_bad_mask, write_refused, write_done, bus_write_way, edit_unnamed, edit_unwritten, edit_done, edit_way, flush_done, flush_none, flush_way}
@@ -180,12 +179,9 @@ examined_ends : (q : Request) (r : Registers) (m : Values) (x : Result Bool Abor
 examined_ends q r m (Ok flag) = done _
 examined_ends q r m (Err x) = aborts x
 
-validated_ends : (l : Layout) (q : Request) (s : State) → EndsBy q s.registers (validate_sought l q s.registers s.tlb.slots s.values)
-validated_ends l q s = on (find (sought l s.registers q) s.tlb.slots) refl
-  where
-    on : (o : Option Hit) → find (sought l s.registers q) s.tlb.slots ≡ o → EndsBy q s.registers (validate_sought l q s.registers s.tlb.slots s.values)
-    on None e = rw (e, validate_sought) (examined_ends q s.registers s.values _)
-    on (Some h) e = rw (e, validate_sought) (done _)
+found_ends : (l : Layout) (q : Request) (o : Option Hit) (s : State) → EndsBy q s.registers (validate_found l q o s.registers s.values)
+found_ends l q None s = examined_ends q s.registers s.values _
+found_ends l q (Some h) s = done _
 
 -- what an outcome of a call notes, its answer put among those of all calls
 abbrev NotesBy : {A : Type 0} → Call → Registers → (A → Reply) → Outcome (Result A Refusal) → Type 0
@@ -211,7 +207,7 @@ validate_notes l kind address s = on _ (validation_way kind address s.registers)
     on : (g : Gate) → ValidationWay kind address s.registers g → NotesBy (Validate kind address) s.registers Flag (validate_through l g s.registers s.tlb.slots s.values)
     on _ validation_refused = of_none (Err BadAccess) refl
     on _ (validation_passes q _) = of_none (Ok (Flag false)) refl
-    on _ (validation_looks q e) = told Flag (Validate kind address) q e s.registers _ _ (validated_ends l q s)
+    on _ (validation_looks q e) = told Flag (Validate kind address) q e s.registers _ _ (found_ends l q _ s)
 
 store_notes : (code : ℕ) (r : Registers) → Notes (Store code) r (reply Value (store_answer code r)) r
 store_notes code r = of_none (reply Value (store_answer code r)) (grind (arith, nat_tests))

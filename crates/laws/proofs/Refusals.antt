@@ -1,11 +1,11 @@
 -- Calls are refused outright exactly where that is owed, and then nothing is altered.
 use Rattle.std.specs.Prelude.{◌==◌, if◌then◌else◌, nat_le, nat_lt}
-use Rattle.std.proofs.Common.{◌≡◌, ℕ, Bool, true, false, ◌&&◌, Ok, Err, Result, sym, refl, ◌∙◌, arith}
+use Rattle.std.proofs.Common.{Some, ◌≡◌, ℕ, Bool, true, false, ◌&&◌, Ok, Err, Result, sym, refl, ◌∙◌, arith}
 use Rattle.std.proofs.lemmas.Bool.{eqb-true, true≢false}
 use Rattle.std.proofs.lemmas.Bool.Decides.{nat_tests}
 use Rattle.entry.specs.Layout.{Layout}
 use Rattle.entry.specs.declared.TableLevel.TheVariants.{First, Second}
-use Rattle.physical.specs.Stores.{Values, Writable}
+use Rattle.physical.specs.Stores.{Values, Writable, dword, write_answer}
 use Rattle.model.specs.declared.call.Call.{Call}
 use Rattle.model.specs.declared.call.Call.TheVariants.{Access, Edit}
 use Rattle.model.specs.declared.call.EditOperands.{EditOperands}
@@ -69,12 +69,12 @@ access_alters_nothing l mode kind address s w = on _ (access_way mode kind addre
     on _ (access_looks q _) h = absurd (true≢false (sym h ∙ sought_mild l q s.unit w))
 
 -- an edit that has reached its entry
-written_exactly : (a v : ℕ) (s : State) (w : Writable) → outright_number (answer_number (reply Edited (rewritten a v s w).outcome.answer)) ≡ (if can_be_written s.values w a then 0 else 16)
+written_exactly : (a v : ℕ) (s : State) (w : Writable) → outright_number (answer_number (reply Edited (rewritten a v (write_answer (s.values (dword a)) (w (dword a))) s w).outcome.answer)) ≡ (if can_be_written s.values w a then 0 else 16)
 written_exactly a v s w = grind (arith, nat_tests)
 
 -- an edit in the second table whose name is on the list
 second_exactly : (l : Layout) (x : EditOperands) (s : State) (w : Writable) →
-    outright_number (answer_number (reply Edited (edit_named l (record { space = x.space; level = Second; page = x.page }) x.value s w).outcome.answer))
+    outright_number (answer_number (reply Edited (edit_named l (Some (record { space = x.space; level = Second; page = x.page })) x.value s w).outcome.answer))
     ≡ (if entry_can_be_written l s.registers s.values w (record x { level = 2 }) then 0 else 16)
 second_exactly l x s w = grind (arith, nat_tests)
 

@@ -14,7 +14,7 @@ use Rattle.model.specs.declared.refusal.Abort.{Abort}
 use Rattle.model.specs.declared.refusal.Abort.TheVariants.{EntryRefused}
 use Rattle.model.specs.declared.translation.Tag.{Tag}
 use Rattle.model.specs.declared.translation.Translation.{Translation}
-use Rattle.model.specs.Walk.{found, marked, passed, touched, walk, walk_second}
+use Rattle.model.specs.Walk.{and_then, found, marked, passed, touched, walk, walk_second}
 use Rattle.laws.proofs.Marking.{Grown, grown_refl, grown_marked, written_there}
 
 -- an entry that lets the access pass
@@ -23,7 +23,7 @@ pub record Passes (l : Layout) (level a : ℕ) (m : Values) (e : ℕ) : Type 0 w
   pub valid : l.valid e ≡ true
   pub permitted : permits (l.protection e) level ≡ true
 
-passes : (l : Layout) (t : TableLevel) (level a : ℕ) (m : Values) (e : ℕ) → passed l t level a m ≡ Ok e → Passes l level a m e
+passes : (l : Layout) (t : TableLevel) (level a : ℕ) (m : Values) (e : ℕ) → passed l t level a (m (dword a)) ≡ Ok e → Passes l level a m e
 passes l t level a m e h = record { reads = grind arith; valid = grind arith; permitted = grind arith }
 
 -- a mark that was made, or was there
@@ -78,7 +78,7 @@ pub data Walks (l : Layout) (level : ℕ) (modifies : Bool) (tag : Tag) (base : 
   ends : (t : Translation) (p : Values) → Finished l level modifies tag base m t p → Walks l level modifies tag base m (Ok t, p)
 
 pub walks : (l : Layout) → Lawful l → (level : ℕ) (modifies : Bool) (tag : Tag) (base : ℕ) (m : Values) (w : Writable) → Walks l level modifies tag base m (walk l level modifies tag base m w)
-walks l laws level modifies tag base m w = on_first (passed l First level a m) refl
+walks l laws level modifies tag base m w = on_first (passed l First level a (m (dword a))) refl
   where
     a : ℕ
     a = l.first_entry base tag.page
@@ -88,7 +88,7 @@ walks l laws level modifies tag base m w = on_first (passed l First level a m) r
 
     on_second_touch : (e g : ℕ) (n : Values) → Passes l level a m e → Touched l First false a e m g n → (f : ℕ) → Passes l level (l.second_entry (l.frame g) tag.page) n f →
         (r : Result ℕ Abort × Values) → Touches l Second modifies (l.second_entry (l.frame g) tag.page) f n r →
-        Goal (elim r.0 [ Err x ↦ (Err x, r.1) | Ok k ↦ (Ok (found l tag a g (l.second_entry (l.frame g) tag.page) k), r.1) ])
+        Goal (and_then r (λ k p. (Ok (found l tag a g (l.second_entry (l.frame g) tag.page) k), p)))
     on_second_touch e g n pe te f pf r (refuses x) = halts x n te.grown
     on_second_touch e g n pe te f pf r (marks k p tf) = ends _ p (record {
       first = e;
@@ -103,7 +103,7 @@ walks l laws level modifies tag base m w = on_first (passed l First level a m) r
       finds = refl;
     })
 
-    on_second : (e g : ℕ) (n : Values) → Passes l level a m e → Touched l First false a e m g n → (r : Result ℕ Abort) → passed l Second level (l.second_entry (l.frame g) tag.page) n ≡ r →
+    on_second : (e g : ℕ) (n : Values) → Passes l level a m e → Touched l First false a e m g n → (r : Result ℕ Abort) → passed l Second level (l.second_entry (l.frame g) tag.page) (n (dword (l.second_entry (l.frame g) tag.page))) ≡ r →
         Goal (walk_second l level modifies tag a g (l.second_entry (l.frame g) tag.page) n w)
     on_second e g n pe te (Err x) q = rw (q, walk_second) (halts x n te.grown)
     on_second e g n pe te (Ok f) q =
@@ -111,10 +111,10 @@ walks l laws level modifies tag base m w = on_first (passed l First level a m) r
         rw (q, walk_second) (on_second_touch e g n pe te f pf _ (touches l laws Second modifies (l.second_entry (l.frame g) tag.page) f n w pf.reads))
 
     on_touch : (e : ℕ) → Passes l level a m e → (r : Result ℕ Abort × Values) → Touches l First false a e m r →
-        Goal (elim r.0 [ Err x ↦ (Err x, r.1) | Ok g ↦ walk_second l level modifies tag a g (l.second_entry (l.frame g) tag.page) r.1 w ])
+        Goal (and_then r (λ g p. walk_second l level modifies tag a g (l.second_entry (l.frame g) tag.page) p w))
     on_touch e pe r (refuses x) = halts x m (grown_refl l m)
     on_touch e pe r (marks g n te) = on_second e g n pe te _ refl
 
-    on_first : (r : Result ℕ Abort) → passed l First level a m ≡ r → Goal (walk l level modifies tag base m w)
+    on_first : (r : Result ℕ Abort) → passed l First level a (m (dword a)) ≡ r → Goal (walk l level modifies tag base m w)
     on_first (Err x) q = rw (q, walk) (halts x m (grown_refl l m))
     on_first (Ok e) q = let pe = passes l First level a m e q in rw (q, walk) (on_touch e pe _ (touches l laws First false a e m w pe.reads))

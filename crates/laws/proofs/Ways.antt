@@ -7,7 +7,7 @@ use Rattle.entry.specs.Layout.{Layout}
 use Rattle.entry.specs.Bus.{merged}
 use Rattle.entry.specs.declared.access.AccessKind.{AccessKind}
 use Rattle.entry.specs.declared.access.Mode.{Mode}
-use Rattle.physical.specs.Stores.{Writable, WriteOutcome, dword, read_answer, write_answer, written}
+use Rattle.physical.specs.Stores.{Writable, WriteOutcome, dword, written}
 use Rattle.physical.specs.declared.MemoryError.{MemoryError}
 use Rattle.model.specs.declared.call.EditOperands.{EditOperands}
 use Rattle.model.specs.declared.call.EntryName.{EntryName}
@@ -18,12 +18,12 @@ use Rattle.model.specs.declared.refusal.Refusal.{Refusal}
 use Rattle.model.specs.declared.refusal.Refusal.TheVariants.{Aborted, BadAccess, BadEntryName, BadMask, EntryNotWritten, MisalignedTransfer}
 use Rattle.model.specs.declared.registers.Registers.{Registers}
 use Rattle.model.specs.declared.translation.Hit.{Hit}
-use Rattle.model.specs.Access.{Accessed, aborted, access_kept, access_sought, access_walking, needs_mark, physical_of}
+use Rattle.model.specs.Access.{Accessed, aborted, access_found, access_kept, access_sought, access_walking, needs_mark, physical_of}
 use Rattle.model.specs.Bus.{bus_error, bus_read, bus_write, is_aligned, is_mask, merge_transferred, put_transferred, transferred}
 use Rattle.model.specs.Calls.{Answer, RunState, answering, flush_open, is_open}
-use Rattle.model.specs.Edit.{edit, edit_named, flush, named, reached, rewritten}
+use Rattle.model.specs.Edit.{edit, edit_named, edit_reached, flush, named, rewritten}
 use Rattle.model.specs.Refusals.{noted}
-use Rattle.model.specs.Requests.{Gate, stopped, untranslated, looking, access_gate, access_request, breaks, kind_of, level_of, mode_of, sought, translate_gate, translates, validation_gate, validation_request}
+use Rattle.model.specs.Requests.{Gate, stopped, untranslated, looking, access_gate, access_request, asked_access, asked_validation, breaks, kind_of, level_of, mode_of, sought, translate_gate, translates, validation_gate, validation_request}
 use Rattle.model.specs.States.{Effect, State, answered, only_answers}
 use Rattle.model.specs.Tlb.{find, hit, rest}
 
@@ -54,14 +54,14 @@ pub data AccessWay (mode kind address : ℕ) (r : Registers) : Gate → Type 0 w
 pub access_way : (mode kind address : ℕ) (r : Registers) → AccessWay mode kind address r (access_gate r mode kind address)
 access_way mode kind address r = on (access_read mode kind address)
   where
-    asked : (q : Request) → Asks mode kind address q → (b : Bool) → breaks r q ≡ b → (c : Bool) → translates r q.mode ≡ c → AccessWay mode kind address r (access_gate r mode kind address)
-    asked q a true b c _ = rw (a.request, access_gate, b) (access_breaks q a)
-    asked q a false b true c = rw (a.request, access_gate, b, translate_gate, c) (access_looks q a)
-    asked q a false b false c = rw (a.request, access_gate, b, translate_gate, c) (access_passes q a)
+    asked : (q : Request) → Asks mode kind address q → (b : Bool) → breaks r q ≡ b → (c : Bool) → translates r q.mode ≡ c → AccessWay mode kind address r (asked_access r (Ok q))
+    asked q a true b c _ = rw (b, asked_access) (access_breaks q a)
+    asked q a false b true c = rw (b, asked_access, translate_gate, c) (access_looks q a)
+    asked q a false b false c = rw (b, asked_access, translate_gate, c) (access_passes q a)
 
     on : AccessRead mode kind address → AccessWay mode kind address r (access_gate r mode kind address)
-    on (unlisted b e) = rw (e, access_gate) (access_refused b)
-    on (listed_as q a) = asked q a _ refl _ refl
+    on (unlisted b e) = rw e (access_refused b)
+    on (listed_as q a) = rw a.request (asked q a _ refl _ refl)
 
 -- and a validation
 pub data ValidationWay (kind address : ℕ) (r : Registers) : Gate → Type 0 where
@@ -72,14 +72,14 @@ pub data ValidationWay (kind address : ℕ) (r : Registers) : Gate → Type 0 wh
 pub validation_way : (kind address : ℕ) (r : Registers) → ValidationWay kind address r (validation_gate r kind address)
 validation_way kind address r = on (validation_request kind address) refl
   where
-    asked : (q : Request) → validation_request kind address ≡ Ok q → (b : Bool) → translates r q.mode ≡ b → ValidationWay kind address r (validation_gate r kind address)
-    asked q e true b = rw (e, validation_gate, b) (validation_looks q e)
-    asked q e false b = rw (e, validation_gate, b) (validation_passes q e)
+    asked : (q : Request) → validation_request kind address ≡ Ok q → (b : Bool) → translates r q.mode ≡ b → ValidationWay kind address r (translate_gate r q)
+    asked q e true b = rw (b, translate_gate) (validation_looks q e)
+    asked q e false b = rw (b, translate_gate) (validation_passes q e)
 
-    on : (o : Result Request Refusal) → validation_request kind address ≡ o → ValidationWay kind address r (validation_gate r kind address)
+    on : (o : Result Request Refusal) → validation_request kind address ≡ o → ValidationWay kind address r (asked_validation r o)
     on (Err x) e =
-        let bad : validation_request kind address ≡ Err BadAccess = grind (arith, nat_tests) in
-        rw (bad, validation_gate) validation_refused
+        let bad : x ≡ BadAccess = grind (arith, nat_tests) in
+        rw bad validation_refused
     on (Ok q) e = asked q e _ refl
 
 -- an access that looks for its page: it walks, or what is kept bars or serves it
@@ -89,16 +89,16 @@ pub data SoughtWay (l : Layout) (q : Request) (s : State) (w : Writable) : Effec
   served : (h : Hit) → SoughtWay l q s w (record { outcome = answered (Ok (physical_of l h.translation q.address)) s.registers s.values; action = hit h })
 
 pub sought_way : (l : Layout) (q : Request) (s : State) (w : Writable) → SoughtWay l q s w (access_sought l q s w)
-sought_way l q s w = on (find (sought l s.registers q) s.tlb.slots) refl
+sought_way l q s w = on (find (sought l s.registers q) s.tlb.slots)
   where
     on_kept : (h : Hit) → (b : Bool) → permits h.translation.protection (level_of s.registers q) ≡ b → (c : Bool) → needs_mark q h.translation ≡ c → SoughtWay l q s w (access_kept l q h s w)
     on_kept h true b true c = rw (b, access_kept, c) walked_for
     on_kept h true b false c = rw (b, access_kept, c) (served h)
     on_kept h false b c _ = rw (b, access_kept) barred
 
-    on : (o : Option Hit) → find (sought l s.registers q) s.tlb.slots ≡ o → SoughtWay l q s w (access_sought l q s w)
-    on None e = rw (e, access_sought) walked_for
-    on (Some h) e = rw (e, access_sought) (on_kept h _ refl _ refl)
+    on : (o : Option Hit) → SoughtWay l q s w (access_found l q o s w)
+    on None = walked_for
+    on (Some h) = on_kept h _ refl _ refl
 
 -- bus transfers
 pub data BusReadWay (physical address : ℕ) (s : State) : Effect (Result ℕ Refusal) → Type 0 where
@@ -126,16 +126,16 @@ pub data BusWriteWay (physical address mask v : ℕ) (s : State) (w : Writable) 
 pub bus_write_way : (physical address mask v : ℕ) (s : State) (w : Writable) → BusWriteWay physical address mask v s w (bus_write physical address mask v s w)
 bus_write_way physical address mask v s w = on (is_aligned physical) refl (is_mask mask) refl
   where
-    on_put : (u : ℕ) (x : WriteOutcome) → write_answer (s.values (dword physical)) (w (dword physical)) ≡ x → BusWriteWay physical address mask v s w (put_transferred physical address u s w)
-    on_put u (Ok _) e = rw (e, put_transferred) (write_done u)
-    on_put u (Err x) e = rw (e, put_transferred) (write_refused x)
+    on_put : (u : ℕ) (x : WriteOutcome) → BusWriteWay physical address mask v s w (put_transferred physical address u x s w)
+    on_put u (Ok _) = write_done u
+    on_put u (Err e) = write_refused e
 
-    on_read : (x : Result ℕ MemoryError) → read_answer (s.values (dword physical)) ≡ x → BusWriteWay physical address mask v s w (merge_transferred physical address mask v s w)
-    on_read (Ok old) e = rw (e, merge_transferred) (on_put (merged old v mask) _ refl)
-    on_read (Err x) e = rw (e, merge_transferred) (write_refused x)
+    on_read : (x : Result ℕ MemoryError) → BusWriteWay physical address mask v s w (merge_transferred physical address mask v x s w)
+    on_read (Ok old) = on_put (merged old v mask) _
+    on_read (Err e) = write_refused e
 
     on : (b : Bool) → is_aligned physical ≡ b → (c : Bool) → is_mask mask ≡ c → BusWriteWay physical address mask v s w (bus_write physical address mask v s w)
-    on true b true c = rw (b, bus_write, c) (on_read _ refl)
+    on true b true c = rw (b, bus_write, c) (on_read _)
     on true b false c = rw (b, bus_write, c) write_bad_mask
     on false b c _ = rw (b, bus_write) write_misaligned
 
@@ -146,19 +146,19 @@ pub data EditWay (l : Layout) (x : EditOperands) (s : State) (w : Writable) : Ef
   edit_done : (a : ℕ) → EditWay l x s w (record { outcome = answered (Ok a) s.registers (written s.values w (dword a) x.value); action = rest })
 
 pub edit_way : (l : Layout) (x : EditOperands) (s : State) (w : Writable) → EditWay l x s w (edit l x s w)
-edit_way l x s w = on_name (named l x) refl
+edit_way l x s w = on_name (named l x)
   where
-    on_write : (a : ℕ) (y : WriteOutcome) → write_answer (s.values (dword a)) (w (dword a)) ≡ y → EditWay l x s w (rewritten a x.value s w)
-    on_write a (Ok _) e = rw (e, rewritten) (edit_done a)
-    on_write a (Err _) e = rw (e, rewritten) edit_unwritten
+    on_write : (a : ℕ) (y : WriteOutcome) → EditWay l x s w (rewritten a x.value y s w)
+    on_write a (Ok _) = edit_done a
+    on_write a (Err _) = edit_unwritten
 
-    on_reach : (n : EntryName) (o : Option ℕ) → reached l n s.registers s.values ≡ o → EditWay l x s w (edit_named l n x.value s w)
-    on_reach n None e = rw (e, edit_named) edit_unwritten
-    on_reach n (Some a) e = rw (e, edit_named) (on_write a _ refl)
+    on_reach : (o : Option ℕ) → EditWay l x s w (edit_reached o x.value s w)
+    on_reach None = edit_unwritten
+    on_reach (Some a) = on_write a _
 
-    on_name : (o : Option EntryName) → named l x ≡ o → EditWay l x s w (edit l x s w)
-    on_name None e = rw (e, edit) edit_unnamed
-    on_name (Some n) e = rw (e, edit) (on_reach n _ refl)
+    on_name : (o : Option EntryName) → EditWay l x s w (edit_named l o x.value s w)
+    on_name None = edit_unnamed
+    on_name (Some n) = on_reach _
 
 pub data FlushWay (a : ℕ) (s : RunState) : Effect Answer → Type 0 where
   flush_done : FlushWay a s (answering (λ _. Ok Flushed) (flush a s.unit))

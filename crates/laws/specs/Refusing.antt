@@ -1,5 +1,6 @@
 -- The calls that are refused outright, and what for.
-use Rattle.std.specs.Prelude.{◌≡◌, ℕ, ◌%◌, Bool, false, not, ◌&&◌, ◌||◌, List, [], ◌∷◌, is_some, Some, None, if◌then◌else◌, ◌==◌, nat_eq, nat_le, nat_lt, IsTrue}
+use Rattle.std.specs.Prelude.{◌≡◌, ℕ, ◌%◌, Bool, false, not, ◌&&◌, ◌||◌, List, [], ◌∷◌, is_some, if◌then◌else◌, ◌==◌, nat_eq, nat_le, nat_lt, IsTrue}
+use Rattle.std.specs.Option.{option_map_or}
 use Rattle.std.specs.Set.{is_member}
 use Rattle.entry.specs.Layout.{Layout}
 use Rattle.physical.specs.Stores.{Values, Writable, dword}
@@ -34,7 +35,7 @@ abbrev pub entry_can_be_written : Layout → Registers → Values → Writable �
 entry_can_be_written l r m w x =
     let a = l.first_entry (base_of r (tag_of r x.space x.page)) x.page in
     if x.level == 1 then can_be_written m w a
-    else (elim (m (dword a)) [ None ↦ false | Some e ↦ l.valid e && can_be_written m w (l.second_entry (l.frame e) x.page) ])
+    else option_map_or (λ e. l.valid e && can_be_written m w (l.second_entry (l.frame e) x.page)) (m (dword a)) false
 
 -- the number among these that a call is owed, by its operands, and an edit by the tables too; 0 where it is owed none
 abbrev pub owed : Layout → Writable → RunState → Call → ℕ

@@ -1,5 +1,5 @@
 -- An access: of the unit, and of the machine that keeps nothing.
-use Rattle.std.specs.Prelude.{ℕ, Bool, false, not, ◌&&◌, Some, None, Ok, Err, Result, if◌then◌else◌}
+use Rattle.std.specs.Prelude.{ℕ, Bool, false, not, ◌&&◌, Some, None, Ok, Err, Option, Result, if◌then◌else◌}
 use Rattle.entry.specs.Access.{permits}
 use Rattle.entry.specs.Layout.{Layout}
 use Rattle.physical.specs.Stores.{Values, Writable}
@@ -59,13 +59,13 @@ access_kept l q h s w =
     else if needs_mark q h.translation then access_walking l q s w
     else record { outcome = answered (Ok (physical_of l h.translation q.address)) s.registers s.values; action = hit h }
 
--- its page is looked for
+-- its page is looked for, and found to be kept or not
+abbrev pub access_found : Layout → Request → Option Hit → State → Writable → Effect Accessed
+access_found l q None s w = access_walking l q s w
+access_found l q (Some h) s w = access_kept l q h s w
+
 abbrev pub access_sought : Layout → Request → State → Writable → Effect Accessed
-access_sought l q s w =
-    elim (find (sought l s.registers q) s.tlb.slots) [
-      | None ↦ access_walking l q s w
-      | Some h ↦ access_kept l q h s w
-    ]
+access_sought l q s w = access_found l q (find (sought l s.registers q) s.tlb.slots) s w
 
 -- an access, from how far it comes
 abbrev pub access_through : Layout → Gate → State → Writable → Effect Accessed

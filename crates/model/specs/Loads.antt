@@ -1,5 +1,5 @@
 -- Reset, and loads and stores of registers.
-use Rattle.std.specs.Prelude.{ℕ, Some, None, Ok, Err, Result}
+use Rattle.std.specs.Prelude.{ℕ, Some, None, Ok, Err, Option, Result}
 use Rattle.std.specs.Option.{ok_or}
 use Rattle.entry.specs.Layout.{Layout}
 use Rattle.model.specs.declared.refusal.Refusal.{Refusal}
@@ -23,19 +23,21 @@ load_action l Ivar0 v r = drop (of_tag (tag_of r 0 (l.page v)))
 load_action l Ivar1 v r = drop (of_tag (tag_of r 1 (l.page v)))
 load_action l _ v r = rest
 
+-- a load of a register, if the code names one
+abbrev pub load_named : Layout → Option Register → ℕ → State → Effect (Result (Unit {0}) Refusal)
+load_named l None v s = only_answers (Err UnknownRegister) s
+load_named l (Some x) v s = record { outcome = answered (Ok tt) (loaded l x v s.registers) s.values; action = load_action l x v s.registers }
+
 abbrev pub load : Layout → ℕ → ℕ → State → Effect (Result (Unit {0}) Refusal)
-load l code v s =
-    elim (register_of code) [
-      | None ↦ only_answers (Err UnknownRegister) s
-      | Some x ↦ record { outcome = answered (Ok tt) (loaded l x v s.registers) s.values; action = load_action l x v s.registers }
-    ]
+load l code v s = load_named l (register_of code) v s
+
+-- what a store answers
+abbrev pub named_answer : Option Register → Registers → Result ℕ Refusal
+named_answer None r = Err UnknownRegister
+named_answer (Some x) r = ok_or (held x r) WriteOnlyRegister
 
 abbrev pub store_answer : ℕ → Registers → Result ℕ Refusal
-store_answer code r =
-    elim (register_of code) [
-      | None ↦ Err UnknownRegister
-      | Some x ↦ ok_or (held x r) WriteOnlyRegister
-    ]
+store_answer code r = named_answer (register_of code) r
 
 abbrev pub store : ℕ → State → Effect (Result ℕ Refusal)
 store code s = only_answers (store_answer code s.registers) s

@@ -76,16 +76,20 @@ abbrev pub translate_gate : Registers → Request → Gate
 translate_gate r q = if translates r q.mode then looking q else untranslated q
 
 -- mode and kind, then the breakpoint, then the translate bits
+abbrev pub asked_access : Registers → Result Request Refusal → Gate
+asked_access r (Err x) = stopped x r
+asked_access r (Ok q) = if breaks r q then stopped (Aborted Breakpoint) (noted Breakpoint q r) else translate_gate r q
+
 abbrev pub access_gate : Registers → ℕ → ℕ → ℕ → Gate
-access_gate r mode kind address =
-    elim (access_request mode kind address) [
-      | Err x ↦ stopped x r
-      | Ok q ↦ if breaks r q then stopped (Aborted Breakpoint) (noted Breakpoint q r) else translate_gate r q
-    ]
+access_gate r mode kind address = asked_access r (access_request mode kind address)
 
 -- the kind, then the translate bit; breakpoints play no part
+abbrev pub asked_validation : Registers → Result Request Refusal → Gate
+asked_validation r (Err x) = stopped x r
+asked_validation r (Ok q) = translate_gate r q
+
 abbrev pub validation_gate : Registers → ℕ → ℕ → Gate
-validation_gate r kind address = elim (validation_request kind address) [ Err x ↦ stopped x r | Ok q ↦ translate_gate r q ]
+validation_gate r kind address = asked_validation r (validation_request kind address)
 
 -- the tag that is looked for, by an access or a validation that comes so far
 abbrev pub seeks_at : Layout → Registers → Gate → Option Tag
