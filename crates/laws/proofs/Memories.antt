@@ -1,6 +1,6 @@
 -- Over two equal memories, what reads and writes them has the same outcome.
 use Rattle.std.specs.Prelude.{◌==◌, if◌then◌else◌}
-use Rattle.std.proofs.Common.{ap, ◌≡◌, ℕ, ◌<◌, Bool, true, false, Ok, Err, Option, Result, refl, subst, arith}
+use Rattle.std.proofs.Common.{◌≡◌, ℕ, ◌<◌, Bool, true, false, Ok, Err, Option, Result, refl, ap, subst, arith}
 use Rattle.entry.specs.Layout.{Layout}
 use Rattle.entry.specs.declared.TableLevel.{TableLevel}
 use Rattle.entry.specs.declared.TableLevel.TheVariants.{First, Second}
