@@ -1,25 +1,24 @@
 -- Two units with equal registers and memories are alike until something stale is looked for.
-use Rattle.std.proofs.Common.{◌≡◌, ℕ, zero, suc, ◌<◌, ◌≤◌, Bool, true, false, List, [], ◌∷◌, length, Some, None, Ok, Err, Option, Result, sym, refl, ap, ◌∙◌, subst, arith}
+use Rattle.std.proofs.Common.{◌≡◌, ℕ, zero, suc, ◌<◌, ◌≤◌, Bool, true, false, List, [], ◌∷◌, length, Some, None, Ok, Err, Option, Result, sym, refl, ap, subst, arith}
 use Rattle.entry.specs.Layout.{Layout, Lawful}
-use Rattle.entry.specs.declared.TableLevel.{TableLevel}
-use Rattle.entry.specs.declared.TableLevel.TheVariants.{First, Second}
-use Rattle.physical.specs.Stores.{Values, Writable, WriteOutcome, dword, read_answer, write_answer}
+use Rattle.physical.specs.Stores.{Values, Writable, WriteOutcome, dword, read_answer}
 use Rattle.physical.specs.declared.MemoryError.{MemoryError}
-use Rattle.model.specs.declared.call.Answer.{Answer}
 use Rattle.model.specs.declared.call.Call.{Call}
 use Rattle.model.specs.declared.call.Call.TheVariants.{Reset, Load, Store, Access, Validate, BusRead, BusWrite, Edit, Flush}
+use Rattle.model.specs.declared.call.EditOperands.{EditOperands}
 use Rattle.model.specs.declared.call.EntryName.{EntryName}
+use Rattle.model.specs.declared.call.Reply.TheVariants.{Done, Edited, Flag, Value}
 use Rattle.model.specs.declared.registers.Register.{Register}
 use Rattle.model.specs.declared.registers.Registers.{Registers}
 use Rattle.model.specs.declared.translation.Tag.{Tag}
 use Rattle.model.specs.Access.{access}
 use Rattle.model.specs.Bus.{bus_read, bus_write, is_aligned, is_mask, merge_transferred, put_transferred, transferred}
-use Rattle.model.specs.Calls.{RunState, as_done, as_edited, as_flag, as_translated, as_value, effect, flush_open, step}
-use Rattle.model.specs.Edit.{edit, edit_named, named, reached, reached_at, reached_second, rewritten}
-use Rattle.model.specs.Loads.{load}
+use Rattle.model.specs.Calls.{Answer, RunState, effect, flush_open, reply, step, translation_reply}
+use Rattle.model.specs.Edit.{edit, edit_named, edit_reached, named, reached, rewritten}
+use Rattle.model.specs.Loads.{load, load_named}
 use Rattle.model.specs.Registers.{register_of}
-use Rattle.model.specs.States.{Outcome, State}
-use Rattle.model.specs.Tlb.{Tlb, base_of, tag_of}
+use Rattle.model.specs.States.{Outcome, State, answered}
+use Rattle.model.specs.Tlb.{Tlb}
 use Rattle.model.specs.Validation.{validate}
 use Rattle.laws.specs.Likeness.{AlikeUntilStaleSought, Fair, SeeksNoneStale}
 use Rattle.laws.specs.Outcomes.{SameMemory, SameOutcome}
@@ -35,11 +34,9 @@ unit_of r k m = record { registers = r; tlb = k; values = m }
 abbrev run_of : Registers → Tlb → Values → List ℕ → RunState
 run_of r k m tokens = record { unit = unit_of r k m; open_tokens = tokens }
 
--- answers put into one type
-abbrev told_as : {A : Type 0} → (A → Answer) → Outcome A → Outcome Answer
-told_as f x = record { answer = f x.answer; registers = x.registers; values = x.values }
-
-same_answering : {A : Type 0} (w u : Writable) (f : A → Answer) (x y : Outcome A) → SameOutcome w u x y → SameOutcome w u (told_as f x) (told_as f y)
+-- answers put among those of all calls
+same_answering : {A : Type 0} (w u : Writable) (f : A → Answer) (x y : Outcome A) → SameOutcome w u x y →
+    SameOutcome w u (answered (f x.answer) x.registers x.values) (answered (f y.answer) y.registers y.values)
 same_answering w u f x y h = record { answer = ap f h.answer; registers = h.registers; memory = h.memory }
 
 current_kept : (l : Layout) (s : State) (tag : Tag) → NoneStale l s tag → KeptCurrent l s tag
@@ -63,11 +60,11 @@ module _ (l : Layout) (laws : Lawful l) (w u : Writable) (r : Registers) (k j : 
       (subst (SameOutcome w u _) (sym y) (same_uncached_validate w u l kind address r m n same))
 
   same_load : (code v : ℕ) → SameOutcome w u (load l code v (unit_of r k m)).outcome (load l code v (unit_of r j n)).outcome
-  same_load code v = on (register_of code) refl
+  same_load code v = on (register_of code)
     where
-      on : (o : Option Register) → register_of code ≡ o → SameOutcome w u (load l code v (unit_of r k m)).outcome (load l code v (unit_of r j n)).outcome
-      on None e = rw (e, load) (same_answered w u _ r m n same)
-      on (Some x) e = rw (e, load) (same_answered w u _ _ m n same)
+      on : (o : Option Register) → SameOutcome w u (load_named l o v (unit_of r k m)).outcome (load_named l o v (unit_of r j n)).outcome
+      on None = same_answered w u _ r m n same
+      on (Some x) = same_answered w u _ _ m n same
 
   same_bus_read : (physical address : ℕ) → SameOutcome w u (bus_read physical address (unit_of r k m)).outcome (bus_read physical address (unit_of r j n)).outcome
   same_bus_read physical address = on (is_aligned physical) refl
@@ -83,51 +80,47 @@ module _ (l : Layout) (laws : Lawful l) (w u : Writable) (r : Registers) (k j : 
   same_bus_write : (physical address mask v : ℕ) → SameOutcome w u (bus_write physical address mask v (unit_of r k m) w).outcome (bus_write physical address mask v (unit_of r j n) u).outcome
   same_bus_write physical address mask v = on (is_aligned physical) refl (is_mask mask) refl
     where
-      on_put : (x : ℕ) (o : WriteOutcome) → write_answer (n (dword physical)) (u (dword physical)) ≡ o → SameOutcome w u (put_transferred physical address x (unit_of r k m) w).outcome (put_transferred physical address x (unit_of r j n) u).outcome
-      on_put x (Ok z) e = rw (same_write w u m n same physical, put_transferred, e) (same_answered w u _ r _ _ (same_written w u m n same (dword physical) x))
-      on_put x (Err z) e = rw (same_write w u m n same physical, put_transferred, e) (same_answered w u _ _ m n same)
+      on_put : (x : ℕ) (o : WriteOutcome) → SameOutcome w u (put_transferred physical address x o (unit_of r k m) w).outcome (put_transferred physical address x o (unit_of r j n) u).outcome
+      on_put x (Ok _) = same_answered w u _ r _ _ (same_written w u m n same (dword physical) x)
+      on_put x (Err e) = same_answered w u _ _ m n same
 
-      on_read : (o : Option ℕ) → n (dword physical) ≡ o → SameOutcome w u (merge_transferred physical address mask v (unit_of r k m) w).outcome (merge_transferred physical address mask v (unit_of r j n) u).outcome
-      on_read None e = let d = same_read w u m n same physical ∙ e in rw (d, e, merge_transferred) (same_answered w u _ _ m n same)
-      on_read (Some old) e = let d = same_read w u m n same physical ∙ e in rw (d, e, merge_transferred) (on_put _ _ refl)
+      on_read : (o : Result ℕ MemoryError) → SameOutcome w u (merge_transferred physical address mask v o (unit_of r k m) w).outcome (merge_transferred physical address mask v o (unit_of r j n) u).outcome
+      on_read (Ok old) = rw (same_write w u m n same physical) (on_put _ _)
+      on_read (Err e) = same_answered w u _ _ m n same
 
       on : (b : Bool) → is_aligned physical ≡ b → (c : Bool) → is_mask mask ≡ c → SameOutcome w u (bus_write physical address mask v (unit_of r k m) w).outcome (bus_write physical address mask v (unit_of r j n) u).outcome
-      on true b true c = rw (b, bus_write, c) (on_read _ refl)
+      on true b true c = rw (b, bus_write, c, same_read w u m n same physical) (on_read (read_answer (n (dword physical))))
       on true b false c = rw (b, bus_write, c) (same_answered w u _ r m n same)
       on false b c _ = rw (b, bus_write) (same_answered w u _ r m n same)
 
   same_reached : (x : EntryName) → reached l x r m ≡ reached l x r n
-  same_reached x = on x.level (l.first_entry (base_of r (tag_of r x.space x.page)) x.page)
+  same_reached x = grind (arith, same_read w u m n same)
+
+  same_edit : (x : EditOperands) → SameOutcome w u (edit l x (unit_of r k m) w).outcome (edit l x (unit_of r j n) u).outcome
+  same_edit x = on_name (named l x)
     where
-      on : (t : TableLevel) (a : ℕ) → reached_at l t a x.page m ≡ reached_at l t a x.page n
-      on First a = refl
-      on Second a = rw (same_read w u m n same a, reached_second)
+      on_write : (a : ℕ) (o : WriteOutcome) → SameOutcome w u (rewritten a x.value o (unit_of r k m) w).outcome (rewritten a x.value o (unit_of r j n) u).outcome
+      on_write a (Ok _) = same_answered w u _ r _ _ (same_written w u m n same (dword a) x.value)
+      on_write a (Err _) = same_answered w u _ r m n same
 
-  same_edit : (space level page v : ℕ) → SameOutcome w u (edit l space level page v (unit_of r k m) w).outcome (edit l space level page v (unit_of r j n) u).outcome
-  same_edit space level page v = on_name (named l space level page) refl
-    where
-      on_write : (a : ℕ) (o : WriteOutcome) → write_answer (n (dword a)) (u (dword a)) ≡ o → SameOutcome w u (rewritten a v (unit_of r k m) w).outcome (rewritten a v (unit_of r j n) u).outcome
-      on_write a (Ok z) e = rw (same_write w u m n same a, rewritten, e) (same_answered w u _ r _ _ (same_written w u m n same (dword a) v))
-      on_write a (Err z) e = rw (same_write w u m n same a, rewritten, e) (same_answered w u _ r m n same)
+      on_reach : (o : Option ℕ) → SameOutcome w u (edit_reached o x.value (unit_of r k m) w).outcome (edit_reached o x.value (unit_of r j n) u).outcome
+      on_reach None = same_answered w u _ r m n same
+      on_reach (Some a) = rw (same_write w u m n same a) (on_write a _)
 
-      on_reach : (x : EntryName) (o : Option ℕ) → reached l x r n ≡ o → SameOutcome w u (edit_named l x v (unit_of r k m) w).outcome (edit_named l x v (unit_of r j n) u).outcome
-      on_reach x None e = let d = same_reached x ∙ e in rw (d, e, edit_named) (same_answered w u _ r m n same)
-      on_reach x (Some a) e = let d = same_reached x ∙ e in rw (d, e, edit_named) (on_write a _ refl)
-
-      on_name : (o : Option EntryName) → named l space level page ≡ o → SameOutcome w u (edit l space level page v (unit_of r k m) w).outcome (edit l space level page v (unit_of r j n) u).outcome
-      on_name None e = rw (e, edit) (same_answered w u _ r m n same)
-      on_name (Some x) e = rw (e, edit) (on_reach x _ refl)
+      on_name : (o : Option EntryName) → SameOutcome w u (edit_named l o x.value (unit_of r k m) w).outcome (edit_named l o x.value (unit_of r j n) u).outcome
+      on_name None = same_answered w u _ r m n same
+      on_name (Some y) = rw (same_reached y) (on_reach _)
 
   -- every call that is fair to both
   same_effect : (c : Call) (o p : List ℕ) → Fair l (run_of r k m o) c → Fair l (run_of r j n p) c → SameOutcome w u (effect l w c (run_of r k m o)).outcome (effect l u c (run_of r j n p)).outcome
   same_effect Reset o p x y = same_answered w u _ _ m n same
-  same_effect (Load code v) o p x y = same_answering w u as_done _ _ (same_load code v)
+  same_effect (Load code v) o p x y = same_answering w u (reply (λ _. Done)) _ _ (same_load code v)
   same_effect (Store code) o p x y = same_answered w u _ r m n same
-  same_effect (Access mode kind address) o p x y = same_answering w u as_translated _ _ (same_access mode kind address x.0 y.0)
-  same_effect (Validate kind address) o p x y = same_answering w u as_flag _ _ (same_validate kind address x.0 y.0)
-  same_effect (BusRead physical address) o p x y = same_answering w u as_value _ _ (same_bus_read physical address)
-  same_effect (BusWrite physical address mask v) o p x y = same_answering w u as_done _ _ (same_bus_write physical address mask v)
-  same_effect (Edit space level page v) o p x y = same_answering w u as_edited _ _ (same_edit space level page v)
+  same_effect (Access mode kind address) o p x y = same_answering w u (reply translation_reply) _ _ (same_access mode kind address x.0 y.0)
+  same_effect (Validate kind address) o p x y = same_answering w u (reply Flag) _ _ (same_validate kind address x.0 y.0)
+  same_effect (BusRead physical address) o p x y = same_answering w u (reply Value) _ _ (same_bus_read physical address)
+  same_effect (BusWrite physical address mask v) o p x y = same_answering w u (reply (λ _. Done)) _ _ (same_bus_write physical address mask v)
+  same_effect (Edit z) o p x y = same_answering w u (reply Edited) _ _ (same_edit z)
   same_effect (Flush a) o p x y = let d = x.1 a refl in let e = y.1 a refl in rw (d, e, flush_open) (same_answered w u _ r m n same)
 
 -- the same of states whose registers are equal

@@ -1,5 +1,5 @@
 -- What it means that a translation is current, and what keeps it so.
-use Rattle.std.proofs.Common.{◌≡◌, ℕ, ◌<◌, ◌≤◌, min, Bool, true, false, not, Some, None, Option, sym, refl, ap, ◌∙◌, ap₂, arith}
+use Rattle.std.proofs.Common.{◌≡◌, ℕ, ◌<◌, ◌≤◌, min, Bool, true, false, Some, None, Option, sym, refl, ap, ◌∙◌, ap₂, arith}
 use Rattle.std.proofs.lemmas.Bool.{true≢false}
 use Rattle.std.proofs.lemmas.Bool.Decides.{nat_tests}
 use Rattle.entry.specs.Layout.{Layout, Lawful}
@@ -8,7 +8,7 @@ use Rattle.physical.specs.Stores.{Values, dword}
 use Rattle.model.specs.declared.registers.Registers.{Registers}
 use Rattle.model.specs.declared.translation.Tag.{Tag}
 use Rattle.model.specs.declared.translation.Translation.{Translation}
-use Rattle.model.specs.Currency.{current, found_now, says_as, same_flag, used_entry}
+use Rattle.model.specs.Currency.{current, found_now, says_as, used_entry}
 use Rattle.model.specs.Tlb.{base_of}
 use Rattle.model.specs.Walk.{found}
 use Rattle.laws.proofs.Marking.{Grown, Later, grown_trans, marked_valid, marked_referenced}
@@ -31,57 +31,8 @@ pub record Current (l : Layout) (base : ℕ) (m : Values) (t : Translation) : Ty
   pub inhibit : t.inhibit ≡ l.inhibit Second second
   pub modified : t.modified ≡ true → 0 < t.protection → l.modified Second second ≡ true
 
-data UsedEntry (l : Layout) (a : ℕ) (m : Values) : Option ℕ → Type 0 where
-  unused : UsedEntry l a m None
-  used : (e : ℕ) → Used l a m e → UsedEntry l a m (Some e)
-
-used_view : (l : Layout) (a : ℕ) (m : Values) → UsedEntry l a m (used_entry l a m)
-used_view l a m = on (m (dword a)) refl
-  where
-    on_entry : (e : ℕ) → m (dword a) ≡ Some e → (v : Bool) → l.valid e ≡ v → (r : Bool) → l.referenced e ≡ r → UsedEntry l a m (used_entry l a m)
-    on_entry e h true v true r = rw (h, used_entry, v, r) (used e (record { reads = h; valid = v; referenced = r }))
-    on_entry e h true v false r = rw (h, used_entry, v, r) unused
-    on_entry e h false v r _ = rw (h, used_entry, v) unused
-
-    on : (o : Option ℕ) → m (dword a) ≡ o → UsedEntry l a m (used_entry l a m)
-    on None h = rw (h, used_entry) unused
-    on (Some e) h = on_entry e h _ refl _ refl
-
-pub used_is : (l : Layout) (a : ℕ) (m : Values) (e : ℕ) → Used l a m e → used_entry l a m ≡ Some e
-used_is l a m e u = rw (u.reads, used_entry, u.valid, u.referenced)
-
-same_flags : (b c : Bool) → same_flag b c ≡ true → b ≡ c
-same_flags true true h = refl
-same_flags true false h = sym h
-same_flags false true h = h
-same_flags false false h = refl
-
-flags_same : (b c : Bool) → b ≡ c → same_flag b c ≡ true
-flags_same true c h = sym h
-flags_same false c h = ap not (sym h)
-
--- what `says_as` tells
-record Says (t n : Translation) : Type 0 where
-  protection : t.protection ≡ n.protection
-  frame : t.frame ≡ n.frame
-  inhibit : t.inhibit ≡ n.inhibit
-  modified : t.modified ≡ true → 0 < t.protection → n.modified ≡ true
-
-says : (t n : Translation) → says_as t n ≡ true → Says t n
-says t n h = record {
-  protection = grind (arith, nat_tests);
-  frame = grind (arith, nat_tests);
-  inhibit = same_flags t.inhibit n.inhibit (grind (arith, nat_tests));
-  modified = λ d p. grind (arith, nat_tests);
-}
-
-said : (t n : Translation) → Says t n → says_as t n ≡ true
-said t n h =
-    let p = h.protection in
-    let f = h.frame in
-    let i = flags_same t.inhibit n.inhibit h.inhibit in
-    let m = h.modified in
-    grind (arith, nat_tests)
+used_from : (l : Layout) (a : ℕ) (m : Values) (e : ℕ) → used_entry l a m ≡ Some e → Used l a m e
+used_from l a m e h = record { reads = grind arith; valid = grind arith; referenced = grind arith }
 
 -- where the two entries of a translation lie now, and what they give
 abbrev pub first_now : Layout → Registers → Translation → ℕ
@@ -94,38 +45,34 @@ abbrev pub now_found : Layout → Registers → Translation → ℕ → ℕ → 
 now_found l r t e f = found l t.tag (first_now l r t) e (second_now l t e) f
 
 pub current_tells : (l : Layout) (r : Registers) (m : Values) (t : Translation) → current l r m t ≡ true → Current l (base_of r t.tag) m t
-current_tells l r m t h = on_first (used_entry l (first_now l r t) m) refl (used_view l (first_now l r t) m)
+current_tells l r m t h = on (used_entry l (first_now l r t) m) refl
   where
-    on_second : (e : ℕ) → used_entry l (first_now l r t) m ≡ Some e → Used l (first_now l r t) m e →
-        (o : Option ℕ) → used_entry l (second_now l t e) m ≡ o → UsedEntry l (second_now l t e) m o → Current l (base_of r t.tag) m t
-    on_second e q u o p unused = absurd (true≢false (sym h ∙ rw (q, current, p)))
-    on_second e q u o p (used f v) =
-        let g : says_as t (now_found l r t e f) ≡ true = rw (q, current, p) at h in
-        let y = says t (now_found l r t e f) g in
+    on_second : (e : ℕ) → used_entry l (first_now l r t) m ≡ Some e → (o : Option ℕ) → used_entry l (second_now l t e) m ≡ o → Current l (base_of r t.tag) m t
+    on_second e q None p = absurd (true≢false (sym h ∙ rw (q, current, p)))
+    on_second e q (Some f) p =
+        let says : says_as t (now_found l r t e f) ≡ true = rw (q, current, p) at h in
         record {
           first = e;
           second = f;
-          first_used = u;
-          second_used = v;
-          protection = y.protection;
-          frame = y.frame;
-          inhibit = y.inhibit;
-          modified = y.modified;
+          first_used = used_from l _ m e q;
+          second_used = used_from l _ m f p;
+          protection = grind (arith, nat_tests);
+          frame = grind (arith, nat_tests);
+          inhibit = grind (arith, nat_tests);
+          modified = λ d above. grind (arith, nat_tests);
         }
 
-    on_first : (o : Option ℕ) → used_entry l (first_now l r t) m ≡ o → UsedEntry l (first_now l r t) m o → Current l (base_of r t.tag) m t
-    on_first o q unused = absurd (true≢false (sym h ∙ rw (q, current)))
-    on_first o q (used e u) = on_second e q u _ refl (used_view l (second_now l t e) m)
+    on : (o : Option ℕ) → used_entry l (first_now l r t) m ≡ o → Current l (base_of r t.tag) m t
+    on None q = absurd (true≢false (sym h ∙ rw (q, current)))
+    on (Some e) q = on_second e q _ refl
 
 pub tells_current : (l : Layout) (r : Registers) (m : Values) (t : Translation) → Current l (base_of r t.tag) m t → current l r m t ≡ true
-tells_current l r m t c =
-    rw (used_is l (first_now l r t) m c.first c.first_used, current, used_is l (second_now l t c.first) m c.second c.second_used)
-    (said t (now_found l r t c.first c.second) (record { protection = c.protection; frame = c.frame; inhibit = c.inhibit; modified = c.modified }))
+tells_current l r m t c = grind (arith, nat_tests)
 
 -- what a walk finds now of a current translation's entries
 pub current_found : (l : Layout) (r : Registers) (m : Values) (t : Translation) → (c : Current l (base_of r t.tag) m t) →
     found_now l t.tag (base_of r t.tag) m ≡ Some (now_found l r t c.first c.second)
-current_found l r m t c = rw (used_is l (first_now l r t) m c.first c.first_used, found_now, used_is l (second_now l t c.first) m c.second c.second_used)
+current_found l r m t c = grind arith
 
 -- more than current: read from the entries that a walk finds now, and modified whenever it says so
 pub record Grounded (l : Layout) (base : ℕ) (m : Values) (t : Translation) : Type 0 where

@@ -1,13 +1,13 @@
 -- What is kept and stale was overtaken by a later bus write or edit.
 use Rattle.std.proofs.Common.{◌≡◌, ℕ, zero, suc, ◌<◌, ◌≤◌, true, ◌⊎◌, List, [], ◌∷◌, length, Some, None, Option, sym, refl, ap, ◌∙◌, subst, ap₂, inl, inr, arith}
 use Rattle.std.proofs.lemmas.Bool.{cases_eq, true≢false}
+use Rattle.std.proofs.lemmas.Option.{none-some, same_Some}
 use Rattle.entry.specs.Layout.{Layout, Lawful}
 use Rattle.physical.specs.Stores.{Values, Writable, dword}
-use Rattle.model.specs.declared.call.Answer.{Answer}
 use Rattle.model.specs.declared.call.Call.{Call}
 use Rattle.model.specs.declared.registers.Registers.{Registers}
 use Rattle.model.specs.declared.translation.Translation.{Translation}
-use Rattle.model.specs.Calls.{RunState, after, effect, start, step}
+use Rattle.model.specs.Calls.{Answer, RunState, after, effect, start, step}
 use Rattle.model.specs.Currency.{current}
 use Rattle.model.specs.States.{Effect, State}
 use Rattle.model.specs.Tlb.{Holds, Tlb, TlbAction, acted, base_of, drop, fill, hit, of_tag, rest, without}
@@ -16,7 +16,7 @@ use Rattle.laws.specs.Staleness.{Changes, Leaves, OnlyWritersMakeStale, Overtake
 use Rattle.laws.proofs.Currents.{Current, Grounded, current_grown, current_tells, grounded_at, grounded_current, grounded_grown, tells_current}
 use Rattle.laws.proofs.Invariant.{Invariant, invariant_run, invariant_start, invariant_step}
 use Rattle.laws.proofs.Moves.{Does, moves, writes, does, Moves, marks_only, keeps, Fills, Stays, not_filling}
-use Rattle.laws.proofs.Slots.{filled_holds, none_kept, none_some, some_same, without_holds}
+use Rattle.laws.proofs.Slots.{filled_holds, none_kept, without_holds}
 
 -- what a call that fills nothing leaves in a slot stood there, and was not dropped
 quiet_holds : (a : TlbAction) (k : Tlb) (i : ℕ) (t : Translation) → (Fills a → ⊥) → Holds (acted a k).slots i t → Holds k.slots i t × Stays a t
@@ -28,9 +28,9 @@ quiet_holds (fill j n) k i t none h = absurd (none tt)
 -- a double-word is as it was, or is another
 same_or_not : (x y : Option ℕ) → (x ≡ y) ⊎ (x ≡ y → ⊥)
 same_or_not None None = inl refl
-same_or_not None (Some y) = inr (none_some y)
-same_or_not (Some x) None = inr (λ e. none_some x (sym e))
-same_or_not (Some x) (Some y) = elim (cases_eq x y) [ inl e ↦ inl (ap Some e) | inr h ↦ inr (λ e. h (some_same x y e)) ]
+same_or_not None (Some y) = inr (none-some y)
+same_or_not (Some x) None = inr (λ e. none-some x (sym e))
+same_or_not (Some x) (Some y) = elim (cases_eq x y) [ inl e ↦ inl (ap Some e) | inr h ↦ inr (λ e. h (same_Some x y e)) ]
 
 fill_slot : (i j : ℕ) (t u : Translation) → fill i t ≡ fill j u → i ≡ j
 fill_slot i j t u e = cc

@@ -2,11 +2,10 @@
 use Rattle.std.proofs.Common.{ℕ, List, [], ◌∷◌, sym, subst, inl, inr}
 use Rattle.entry.specs.Layout.{Layout, Lawful}
 use Rattle.physical.specs.Stores.{Values, Writable}
-use Rattle.model.specs.declared.call.Answer.{Answer}
 use Rattle.model.specs.declared.call.Call.{Call}
 use Rattle.model.specs.declared.registers.Registers.{Registers}
 use Rattle.model.specs.declared.translation.Translation.{Translation}
-use Rattle.model.specs.Calls.{RunState, after, effect, start, step}
+use Rattle.model.specs.Calls.{Answer, RunState, after, effect, start, step}
 use Rattle.model.specs.States.{Effect, State}
 use Rattle.model.specs.Tlb.{Holds, Slots, Tlb, TlbAction, Which, acted, drop, fill, filled, hit, of_tag, rest, without}
 use Rattle.laws.specs.Transparency.{KeptOnce, Unique}

@@ -1,4 +1,5 @@
 pub mod Slots
+pub mod Ways
 pub mod Marking
 pub mod Walks
 pub mod Currents

@@ -1,6 +1,6 @@
 -- What marks leave of entries and of memories, by the laws of a layout.
-use Rattle.std.proofs.Common.{◌≡◌, ℕ, Bool, true, false, ◌⊎◌, Some, Option, sym, refl, ap, ◌∙◌, inl, inr}
-use Rattle.std.proofs.lemmas.Bool.{eq-eqb, ne_eqb, cases_eq, true≢false}
+use Rattle.std.proofs.Common.{◌≡◌, ℕ, Bool, true, ◌⊎◌, Some, Option, refl, ap, ◌∙◌, inl, inr, arith}
+use Rattle.std.proofs.lemmas.Bool.{eq-eqb, ne_eqb, cases_eq}
 use Rattle.entry.specs.Layout.{Layout, Lawful}
 use Rattle.entry.specs.declared.TableLevel.{TableLevel}
 use Rattle.entry.specs.declared.TableLevel.TheVariants.{First, Second}
@@ -16,24 +16,19 @@ written_elsewhere m w k v q apart = rw (ne_eqb q k apart)
 
 module _ (l : Layout) (laws : Lawful l) where
   pub marked_valid : (t : TableLevel) (b : Bool) (e : ℕ) → l.valid (marked l t b e) ≡ l.valid e
-  marked_valid t true e = laws.modified_valid t (l.mark_referenced t e) ∙ laws.referenced_valid t e
-  marked_valid t false e = laws.referenced_valid t e
+  marked_valid t b e = grind (arith, laws.modified_valid, laws.referenced_valid)
 
   pub marked_protection : (t : TableLevel) (b : Bool) (e : ℕ) → l.protection (marked l t b e) ≡ l.protection e
-  marked_protection t true e = laws.modified_protection t (l.mark_referenced t e) ∙ laws.referenced_protection t e
-  marked_protection t false e = laws.referenced_protection t e
+  marked_protection t b e = grind (arith, laws.modified_protection, laws.referenced_protection)
 
   pub marked_frame : (t : TableLevel) (b : Bool) (e : ℕ) → l.frame (marked l t b e) ≡ l.frame e
-  marked_frame t true e = laws.modified_frame t (l.mark_referenced t e) ∙ laws.referenced_frame t e
-  marked_frame t false e = laws.referenced_frame t e
+  marked_frame t b e = grind (arith, laws.modified_frame, laws.referenced_frame)
 
   pub marked_inhibit : (t : TableLevel) (b : Bool) (e : ℕ) → l.inhibit Second (marked l t b e) ≡ l.inhibit Second e
-  marked_inhibit t true e = laws.modified_inhibit t Second (l.mark_referenced t e) ∙ laws.referenced_inhibit t Second e
-  marked_inhibit t false e = laws.referenced_inhibit t Second e
+  marked_inhibit t b e = grind (arith, laws.modified_inhibit, laws.referenced_inhibit)
 
   pub marked_referenced : (t : TableLevel) (b : Bool) (e : ℕ) → l.referenced (marked l t b e) ≡ true
-  marked_referenced t true e = laws.modified_referenced t (l.mark_referenced t e) ∙ laws.referenced_set t e
-  marked_referenced t false e = laws.referenced_set t e
+  marked_referenced t b e = grind (arith, laws.modified_referenced, laws.referenced_set)
 
   -- modified in the second table, whichever table the mark was made for
   modified_grows : (t : TableLevel) (e : ℕ) → l.modified Second e ≡ true → l.modified Second (l.mark_modified t e) ≡ true
@@ -41,17 +36,14 @@ module _ (l : Layout) (laws : Lawful l) where
   modified_grows Second e h = laws.modified_set e
 
   pub marked_modified : (t : TableLevel) (b : Bool) (e : ℕ) → l.modified Second e ≡ true → l.modified Second (marked l t b e) ≡ true
-  marked_modified t true e h = modified_grows t (l.mark_referenced t e) (laws.referenced_modified t Second e ∙ h)
-  marked_modified t false e h = laws.referenced_modified t Second e ∙ h
+  marked_modified t b e h = grind (arith, modified_grows, laws.referenced_modified)
 
   pub marked_for_write : (b : Bool) (e : ℕ) → b ≡ true → l.modified Second (marked l Second b e) ≡ true
-  marked_for_write true e h = laws.modified_set (l.mark_referenced Second e)
-  marked_for_write false e h = absurd (true≢false (sym h))
+  marked_for_write b e h = rw h (laws.modified_set (l.mark_referenced Second e))
 
   -- an entry that has the marks is left as it is
   pub marked_again : (t : TableLevel) (b : Bool) (e : ℕ) → l.referenced e ≡ true → (b ≡ true → l.modified t e ≡ true) → marked l t b e ≡ e
-  marked_again t true e r m = ap (l.mark_modified t) (laws.referenced_stays t e r) ∙ laws.modified_stays t e (m refl)
-  marked_again t false e r m = laws.referenced_stays t e r
+  marked_again t b e r m = grind (arith, laws.referenced_stays, laws.modified_stays)
 
 -- what an entry can become by marks
 pub record Later (l : Layout) (e : ℕ) (x : Option ℕ) : Type 0 where

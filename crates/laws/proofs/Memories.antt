@@ -1,13 +1,12 @@
 -- Over two equal memories, what reads and writes them has the same outcome.
-use Rattle.std.proofs.Common.{◌≡◌, ℕ, ◌<◌, Bool, true, false, cond, eqb, Some, None, Ok, Err, Option, Result, refl, ap, ◌∙◌, subst, ap₂, arith}
-use Rattle.entry.specs.Access.{permits}
+use Rattle.std.specs.Prelude.{◌==◌, if◌then◌else◌}
+use Rattle.std.proofs.Common.{◌≡◌, ℕ, ◌<◌, Bool, true, false, Ok, Err, Option, Result, refl, ap, subst, arith}
 use Rattle.entry.specs.Layout.{Layout}
 use Rattle.entry.specs.declared.TableLevel.{TableLevel}
 use Rattle.entry.specs.declared.TableLevel.TheVariants.{First, Second}
-use Rattle.physical.specs.Stores.{Values, Writable, WriteOutcome, dword, replaced, write_answer, written}
+use Rattle.physical.specs.Stores.{Values, Writable, dword, replaced, write_answer, written}
 use Rattle.model.specs.declared.call.Request.{Request}
 use Rattle.model.specs.declared.refusal.Abort.{Abort}
-use Rattle.model.specs.declared.refusal.Abort.TheVariants.{EntryRefused, InvalidEntry}
 use Rattle.model.specs.declared.registers.Registers.{Registers}
 use Rattle.model.specs.declared.translation.Tag.{Tag}
 use Rattle.model.specs.declared.translation.Translation.{Translation}
@@ -15,39 +14,22 @@ use Rattle.model.specs.Access.{uncached_access, uncached_through, walk_outcome}
 use Rattle.model.specs.Requests.{Gate, stopped, untranslated, looking, access_gate, level_of, marks_modified, sought, validation_gate}
 use Rattle.model.specs.States.{answered}
 use Rattle.model.specs.Tlb.{base_of}
-use Rattle.model.specs.Validation.{examine, examine_second, examined, uncached_validate, uncached_validate_through}
-use Rattle.model.specs.Walk.{found, marked, passed, touched, walk, walk_second}
+use Rattle.model.specs.Validation.{examine, examined, uncached_validate, uncached_validate_through}
+use Rattle.model.specs.Walk.{and_then, marked, passed, touched, walk, walk_second}
 use Rattle.laws.specs.Outcomes.{SameMemory, SameOutcome, seen}
-use Rattle.laws.proofs.Slots.{some_same}
 
 -- what can be seen of a double-word tells its value
 pub seen_value : (x y : Option ℕ) (b c : Bool) → seen x b ≡ seen y c → x ≡ y
-seen_value None None b c h = refl
-seen_value None (Some y) b c h = let z : ◌≡◌ {A = ℕ} 0 1 = cc in absurd (omega arith)
-seen_value (Some x) None b c h = let z : ◌≡◌ {A = ℕ} 0 1 = cc in absurd (omega arith)
-seen_value (Some x) (Some y) b c h = ap Some (ap (λ p. p.0) (some_same (x, b) (y, c) h))
+seen_value x y b c h = grind arith
 
 pub dword_small : (a : ℕ) → dword a < 1073741824
 dword_small a = omega arith
 
 seen_write : (x y : Option ℕ) (b c : Bool) → seen x b ≡ seen y c → write_answer x b ≡ write_answer y c
-seen_write None None b c h = refl
-seen_write None (Some y) b c h = let z : ◌≡◌ {A = ℕ} 0 1 = cc in absurd (omega arith)
-seen_write (Some x) None b c h = let z : ◌≡◌ {A = ℕ} 0 1 = cc in absurd (omega arith)
-seen_write (Some x) (Some y) b c h = let e : b ≡ c = ap (λ p. p.1) (some_same (x, b) (y, c) h) in ap (write_answer (Some x)) e ∙ value c
-  where
-    value : (d : Bool) → write_answer (Some x) d ≡ write_answer (Some y) d
-    value true = refl
-    value false = refl
+seen_write x y b c h = grind arith
 
 seen_replaced : (v : ℕ) (x y : Option ℕ) (b c : Bool) → seen x b ≡ seen y c → seen (replaced v x b) b ≡ seen (replaced v y c) c
-seen_replaced v None None b c h = refl
-seen_replaced v None (Some y) b c h = let z : ◌≡◌ {A = ℕ} 0 1 = cc in absurd (omega arith)
-seen_replaced v (Some x) None b c h = let z : ◌≡◌ {A = ℕ} 0 1 = cc in absurd (omega arith)
-seen_replaced v (Some x) (Some y) b c h =
-    let e : b ≡ c = ap (λ p. p.1) (some_same (x, b) (y, c) h) in
-    let f : x ≡ y = ap (λ p. p.0) (some_same (x, b) (y, c) h) in
-    ap₂ (λ p d. seen (replaced v (Some p) d) d) f e
+seen_replaced v x y b c h = grind arith
 
 module _ (w u : Writable) where
   -- the same answer, and equal memories
@@ -62,53 +44,35 @@ module _ (w u : Writable) where
     same_write a = seen_write (m (dword a)) (n (dword a)) (w (dword a)) (u (dword a)) (same (dword a) (dword_small a))
 
     pub same_written : (k v : ℕ) → SameMemory (written m w k v) w (written n u k v) u
-    same_written k v q small = on (eqb q k)
+    same_written k v q small = on (q == k)
       where
-        on : (b : Bool) → seen (cond b (replaced v (m q) (w q)) (m q)) (w q) ≡ seen (cond b (replaced v (n q) (u q)) (n q)) (u q)
+        on : (b : Bool) → seen (if b then replaced v (m q) (w q) else m q) (w q) ≡ seen (if b then replaced v (n q) (u q) else n q) (u q)
         on true = seen_replaced v (m q) (n q) (w q) (u q) (same q small)
         on false = same q small
 
-    same_passed : (l : Layout) (t : TableLevel) (level a : ℕ) → passed l t level a m ≡ passed l t level a n
-    same_passed l t level a = rw (same_read a, passed)
-
     same_touched : (l : Layout) (t : TableLevel) (b : Bool) (a e : ℕ) → SamePair (touched l t b a e m w) (touched l t b a e n u)
-    same_touched l t b a e = on (eqb (marked l t b e) e) refl
+    same_touched l t b a e = on (marked l t b e == e) refl
       where
-        on_write : (x : WriteOutcome) → SamePair {A = Result ℕ Abort}
-            (elim x [ Ok _ ↦ (Ok (marked l t b e), written m w (dword a) (marked l t b e)) | Err reason ↦ (Err (EntryRefused t a reason), written m w (dword a) (marked l t b e)) ])
-            (elim x [ Ok _ ↦ (Ok (marked l t b e), written n u (dword a) (marked l t b e)) | Err reason ↦ (Err (EntryRefused t a reason), written n u (dword a) (marked l t b e)) ])
-        on_write (Ok _) = (refl, same_written (dword a) (marked l t b e))
-        on_write (Err reason) = (refl, same_written (dword a) (marked l t b e))
-
-        on : (c : Bool) → eqb (marked l t b e) e ≡ c → SamePair (touched l t b a e m w) (touched l t b a e n u)
+        on : (c : Bool) → marked l t b e == e ≡ c → SamePair (touched l t b a e m w) (touched l t b a e n u)
         on true c = rw (c, touched) (refl, same)
-        on false c = rw (c, touched, same_write a) (on_write (write_answer (n (dword a)) (u (dword a))))
+        on false c = rw (c, touched, same_write a) (refl, same_written (dword a) (marked l t b e))
 
-    same_second : (l : Layout) (level : ℕ) (b : Bool) (tag : Tag) (a e c : ℕ) → SamePair (walk_second l level b tag a e c m w) (walk_second l level b tag a e c n u)
-    same_second l level b tag a e c = on (passed l Second level c n) refl
-      where
-        on_touched : (x y : Result ℕ Abort × Values) → SamePair x y → SamePair {A = Result Translation Abort}
-            (elim x.0 [ Err z ↦ (Err z, x.1) | Ok g ↦ (Ok (found l tag a e c g), x.1) ])
-            (elim y.0 [ Err z ↦ (Err z, y.1) | Ok g ↦ (Ok (found l tag a e c g), y.1) ])
-        on_touched (Err z, x) (y, y') (h, s) = rw (← h) (refl, s)
-        on_touched (Ok g, x) (y, y') (h, s) = rw (← h) (refl, s)
+  -- steps that are the same, and followed by the same
+  same_then : {A B : Type 0} (x y : Result A Abort × Values) (f g : A → Values → Result B Abort × Values) → SamePair x y →
+      ((z : A) (m n : Values) → SameMemory m w n u → SamePair (f z m) (g z n)) → SamePair (and_then x f) (and_then y g)
+  same_then (Ok z, m) (y, n) f g (h, s) next = rw (← h) (next z m n s)
+  same_then (Err z, m) (y, n) f g (h, s) next = rw (← h) (refl, s)
 
-        on : (o : Result ℕ Abort) → passed l Second level c n ≡ o → SamePair (walk_second l level b tag a e c m w) (walk_second l level b tag a e c n u)
-        on (Err z) p = rw (same_passed l Second level c, walk_second, p) (refl, same)
-        on (Ok f) p = rw (same_passed l Second level c, walk_second, p) (on_touched _ _ (same_touched l Second b c f))
+  same_second : (m n : Values) → SameMemory m w n u → (l : Layout) (level : ℕ) (b : Bool) (tag : Tag) (a e c : ℕ) → SamePair (walk_second l level b tag a e c m w) (walk_second l level b tag a e c n u)
+  same_second m n same l level b tag a e c =
+      same_then _ _ _ _ (ap (passed l Second level c) (same_read m n same c), same) (λ f p q s.
+      same_then _ _ _ _ (same_touched p q s l Second b c f) (λ g p' q' s'. (refl, s')))
 
   same_walk : (m n : Values) → SameMemory m w n u → (l : Layout) (level : ℕ) (b : Bool) (tag : Tag) (base : ℕ) → SamePair (walk l level b tag base m w) (walk l level b tag base n u)
-  same_walk m n same l level b tag base = on (passed l First level (l.first_entry base tag.page) n) refl
-    where
-      on_touched : (x y : Result ℕ Abort × Values) → SamePair x y → SamePair {A = Result Translation Abort}
-          (elim x.0 [ Err z ↦ (Err z, x.1) | Ok g ↦ walk_second l level b tag (l.first_entry base tag.page) g (l.second_entry (l.frame g) tag.page) x.1 w ])
-          (elim y.0 [ Err z ↦ (Err z, y.1) | Ok g ↦ walk_second l level b tag (l.first_entry base tag.page) g (l.second_entry (l.frame g) tag.page) y.1 u ])
-      on_touched (Err z, x) (y, y') (h, s) = rw (← h) (refl, s)
-      on_touched (Ok g, x) (y, y') (h, s) = rw (← h) (same_second x y' s l level b tag (l.first_entry base tag.page) g (l.second_entry (l.frame g) tag.page))
-
-      on : (o : Result ℕ Abort) → passed l First level (l.first_entry base tag.page) n ≡ o → SamePair (walk l level b tag base m w) (walk l level b tag base n u)
-      on (Err z) p = rw (same_passed m n same l First level (l.first_entry base tag.page), walk, p) (refl, same)
-      on (Ok e) p = rw (same_passed m n same l First level (l.first_entry base tag.page), walk, p) (on_touched _ _ (same_touched m n same l First false (l.first_entry base tag.page) e))
+  same_walk m n same l level b tag base =
+      let a = l.first_entry base tag.page in
+      same_then _ _ _ _ (ap (passed l First level a) (same_read m n same a), same) (λ e p q s.
+      same_then _ _ _ _ (same_touched p q s l First false a e) (λ g p' q' s'. same_second p' q' s' l level b tag a g (l.second_entry (l.frame g) tag.page)))
 
   -- equal ends of walks have equal outcomes
   same_walk_outcome : (l : Layout) (q : Request) (r : Registers) (x y : Result Translation Abort × Values) → SamePair x y → SameOutcome w u (walk_outcome l q r x) (walk_outcome l q r y)
@@ -128,14 +92,7 @@ module _ (w u : Writable) where
       on (looking q) = same_walk_outcome l q r _ _ (same_walk m n same l (level_of r q) (marks_modified q.kind) (sought l r q) (base_of r (sought l r q)))
 
   same_examine : (m n : Values) → SameMemory m w n u → (l : Layout) (level : ℕ) (tag : Tag) (base : ℕ) → examine l level tag base m ≡ examine l level tag base n
-  same_examine m n same l level tag base = on (n (dword (l.first_entry base tag.page))) refl
-    where
-      second : (c : ℕ) → examine_second l level c m ≡ examine_second l level c n
-      second c = rw (same_read m n same c, examine_second)
-
-      on : (o : Option ℕ) → n (dword (l.first_entry base tag.page)) ≡ o → examine l level tag base m ≡ examine l level tag base n
-      on None e = rw (same_read m n same (l.first_entry base tag.page), examine, e)
-      on (Some f) e = rw (same_read m n same (l.first_entry base tag.page), examine, e) (ap (λ x. cond (permits (l.protection f) level) (cond (l.valid f) x (Err (InvalidEntry First (l.first_entry base tag.page)))) (Ok true)) (second (l.second_entry (l.frame f) tag.page)))
+  same_examine m n same l level tag base = grind (arith, same_read m n same)
 
   pub same_uncached_validate : (l : Layout) (kind address : ℕ) (r : Registers) (m n : Values) → SameMemory m w n u → SameOutcome w u (uncached_validate l kind address r m) (uncached_validate l kind address r n)
   same_uncached_validate l kind address r m n same = on (validation_gate r kind address)

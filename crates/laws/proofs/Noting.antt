@@ -1,47 +1,46 @@
 -- The fields of MSR after an abort and a bus error.
-use Rattle.std.proofs.Common.{◌≡◌, ℕ, zero, suc, ◌+◌, ◌-◌, ◌/◌, ◌%◌, ◌^◌, ◌<◌, Bool, true, false, cond, not, ◌||◌, eqb, Some, None, Ok, Err, Option, Result, sym, refl, ap, ◌∙◌, arith}
+use Rattle.std.specs.Prelude.{◌==◌, if◌then◌else◌}
+use Rattle.std.proofs.Common.{◌≡◌, ℕ, ◌+◌, ◌-◌, ◌*◌, ◌/◌, ◌%◌, ◌^◌, ◌<◌, Bool, true, false, ◌||◌, Some, None, Ok, Err, Option, Result, sym, refl, ap, ◌∙◌, arith, lit<}
 use native.Mathlib.Nat.{mod-mod}
 use lib.Bits.{bit_and, bit_or, and_zero_r}
 use Rattle.std.proofs.lemmas.Nat.{and_mask}
 use Rattle.std.proofs.lemmas.Bool.{true≢false}
 use Rattle.std.proofs.lemmas.Bool.Decides.{nat_tests}
-use Rattle.entry.specs.Access.{is_user, permits}
+use Rattle.entry.specs.Access.{is_user}
 use Rattle.entry.specs.Layout.{Layout}
 use Rattle.entry.specs.Bits.{field, flag}
 use Rattle.entry.specs.declared.TableLevel.TheVariants.{First, Second}
 use Rattle.entry.specs.declared.access.AccessKind.{AccessKind}
-use Rattle.entry.specs.declared.access.AccessKind.TheVariants.{Read, Write, ReadModifyWrite}
+use Rattle.entry.specs.declared.access.AccessKind.TheVariants.{Write}
 use Rattle.entry.specs.declared.access.Mode.{Mode}
 use Rattle.entry.specs.declared.access.Mode.TheVariants.{Supervisor, User}
 use Rattle.entry.proofs.Bitwise.{and_field, beside, or_field}
-use Rattle.entry.specs.Bus.{merged}
-use Rattle.physical.specs.Stores.{Values, Writable, WriteOutcome, dword, read_answer, write_answer}
+use Rattle.physical.specs.Stores.{Values, Writable}
 use Rattle.physical.specs.declared.MemoryError.{MemoryError}
-use Rattle.model.specs.declared.call.Answer.TheVariants.{Done, Edited, Flag, Flushed, NotOpen, Refused, Translated, Value}
 use Rattle.model.specs.declared.call.Call.{Call}
 use Rattle.model.specs.declared.call.Call.TheVariants.{Reset, Load, Store, Access, Validate, BusRead, BusWrite, Edit, Flush}
-use Rattle.model.specs.declared.call.EntryName.{EntryName}
+use Rattle.model.specs.declared.call.EditOperands.{EditOperands}
+use Rattle.model.specs.declared.call.Reply.{Reply}
+use Rattle.model.specs.declared.call.Reply.TheVariants.{Done, Edited, Flag, Flushed, NotOpen, Translated, Value}
 use Rattle.model.specs.declared.call.Request.{Request}
 use Rattle.model.specs.declared.refusal.Abort.{Abort}
 use Rattle.model.specs.declared.refusal.Abort.TheVariants.{Breakpoint, InvalidEntry, Protection, EntryRefused}
 use Rattle.model.specs.declared.refusal.Refusal.{Refusal}
-use Rattle.model.specs.declared.refusal.Refusal.TheVariants.{Aborted, BadAccess, BadEntryName, BadMask, EntryNotWritten, MisalignedTransfer}
+use Rattle.model.specs.declared.refusal.Refusal.TheVariants.{Aborted, BadAccess, BadEntryName, BadMask, BusError, EntryNotWritten, MisalignedTransfer}
 use Rattle.model.specs.declared.registers.Registers.{Registers}
 use Rattle.model.specs.declared.translation.Hit.{Hit}
 use Rattle.model.specs.declared.translation.Translation.{Translation}
-use Rattle.model.specs.Access.{Accessed, access, access_kept, access_sought, walk_outcome, walked}
-use Rattle.model.specs.Bus.{bus_read, bus_write, is_aligned, is_mask, merge_transferred, put_transferred, transferred}
-use Rattle.model.specs.Calls.{RunState, as_done, as_edited, as_flag, as_translated, as_value, flush_open, is_open}
-use Rattle.model.specs.Edit.{edit, edit_named, named, reached, rewritten}
+use Rattle.model.specs.Access.{Accessed, access, access_sought, access_through, walk_outcome, walked}
+use Rattle.model.specs.Bus.{bus_read, bus_write}
+use Rattle.model.specs.Calls.{Answer, RunState, flush_open, reply, translation_reply}
+use Rattle.model.specs.Edit.{edit}
 use Rattle.model.specs.Loads.{store_answer}
-use Rattle.model.specs.Registers.{translate_user}
-use Rattle.model.specs.Requests.{access_gate, access_request, breaks, level_of, marks_modified, sought, translate_gate, translates, validation_gate, validation_request}
-use Rattle.model.specs.States.{Outcome, State}
-use Rattle.model.specs.Tlb.{find}
-use Rattle.model.specs.Validation.{Validated, examined, validate, validate_sought}
+use Rattle.model.specs.Requests.{Gate}
+use Rattle.model.specs.States.{Effect, Outcome, State}
+use Rattle.model.specs.Validation.{examined, validate, validate_found, validate_through}
 use Rattle.model.specs.Refusals.{bus_error_noted, direction_and_mode, is_write, noted, with_bits}
-use Rattle.laws.specs.Notes.{AbortNotes, AbortStatus, BusErrorNotes, Notes, RegisterNotes, is_breakpoint, is_memory_abort, of_abort, of_bus_error, of_none, request_of, tex_after}
-use Rattle.laws.proofs.Refusals.{AccessRead, unlisted, listed_as, access_read}
+use Rattle.laws.specs.Notes.{AbortNotes, AbortStatus, BusErrorNotes, Notes, RegisterNotes, is_breakpoint, is_memory_abort, of_abort, of_bus_error, of_none, request_of, served_address, tex_after}
+use Rattle.laws.proofs.Ways.{AccessWay, ValidationWay, SoughtWay, BusReadWay, BusWriteWay, EditWay, FlushWay, access_refused, access_breaks, access_passes, access_looks, access_way, validation_refused, validation_passes, validation_looks, validation_way, walked_for, barred, served, sought_way, read_misaligned, read_refused, read_done, bus_read_way, write_misaligned, write_bad_mask, write_refused, write_done, bus_write_way, edit_unnamed, edit_unwritten, edit_done, edit_way, flush_done, flush_none, flush_way}
 
 -- a field that the mask does not touch, and one that lies in it
 kept : (low width mask bits v : ℕ) → field low width (0xffffffff - mask) ≡ 2 ^ width - 1 → field low width bits ≡ 0 → field low width (with_bits mask bits v) ≡ field low width v
@@ -68,28 +67,26 @@ record Beside (e d : ℕ) (w u : Bool) : Type 0 where
   bit_10 : field 10 1 (e + d) ≡ field 10 1 e
   high : field 11 21 (e + d) ≡ field 11 21 e
 
-beside_none : (e : ℕ) → e / 4 % 4 ≡ 0 → Beside e 0 false false
-beside_none e h = record { ddt = grind (arith, nat_tests); ust = grind (arith, nat_tests); low = grind (arith, nat_tests); middle = grind (arith, nat_tests); bit_8 = grind (arith, nat_tests); bit_9 = grind (arith, nat_tests); bit_10 = grind (arith, nat_tests); high = grind (arith, nat_tests) }
+direction_beside : (e x y : ℕ) → e / 4 % 4 ≡ 0 → x < 2 → y < 2 → Beside e (4 * x + 8 * y) (x == 1) (y == 1)
+direction_beside e x y h i j = record {
+  ddt = grind (arith, nat_tests);
+  ust = grind (arith, nat_tests);
+  low = grind (arith, nat_tests);
+  middle = grind (arith, nat_tests);
+  bit_8 = grind (arith, nat_tests);
+  bit_9 = grind (arith, nat_tests);
+  bit_10 = grind (arith, nat_tests);
+  high = grind (arith, nat_tests);
+}
 
-beside_write : (e : ℕ) → e / 4 % 4 ≡ 0 → Beside e 4 true false
-beside_write e h = record { ddt = grind (arith, nat_tests); ust = grind (arith, nat_tests); low = grind (arith, nat_tests); middle = grind (arith, nat_tests); bit_8 = grind (arith, nat_tests); bit_9 = grind (arith, nat_tests); bit_10 = grind (arith, nat_tests); high = grind (arith, nat_tests) }
+beside_of : (e : ℕ) → e / 4 % 4 ≡ 0 → (k : AccessKind) (m : Mode) → Beside e ((if is_write k then 0x004 else 0) + (if is_user m then 0x008 else 0)) (is_write k) (is_user m)
+beside_of e h Write Supervisor = direction_beside e 1 0 h (lit< tt) (lit< tt)
+beside_of e h Write User = direction_beside e 1 1 h (lit< tt) (lit< tt)
+beside_of e h _ Supervisor = direction_beside e 0 0 h (lit< tt) (lit< tt)
+beside_of e h _ User = direction_beside e 0 1 h (lit< tt) (lit< tt)
 
-beside_user : (e : ℕ) → e / 4 % 4 ≡ 0 → Beside e 8 false true
-beside_user e h = record { ddt = grind (arith, nat_tests); ust = grind (arith, nat_tests); low = grind (arith, nat_tests); middle = grind (arith, nat_tests); bit_8 = grind (arith, nat_tests); bit_9 = grind (arith, nat_tests); bit_10 = grind (arith, nat_tests); high = grind (arith, nat_tests) }
-
-beside_both : (e : ℕ) → e / 4 % 4 ≡ 0 → Beside e 12 true true
-beside_both e h = record { ddt = grind (arith, nat_tests); ust = grind (arith, nat_tests); low = grind (arith, nat_tests); middle = grind (arith, nat_tests); bit_8 = grind (arith, nat_tests); bit_9 = grind (arith, nat_tests); bit_10 = grind (arith, nat_tests); high = grind (arith, nat_tests) }
-
-beside_of : (e : ℕ) → e / 4 % 4 ≡ 0 → (k : AccessKind) (m : Mode) → Beside e (cond (is_write k) 0x004 0 + cond (is_user m) 0x008 0) (is_write k) (is_user m)
-beside_of e h Read Supervisor = beside_none e h
-beside_of e h Read User = beside_user e h
-beside_of e h Write Supervisor = beside_write e h
-beside_of e h Write User = beside_both e h
-beside_of e h ReadModifyWrite Supervisor = beside_none e h
-beside_of e h ReadModifyWrite User = beside_user e h
-
-is_one : (x y : ℕ) → x ≡ y → eqb x 1 ≡ eqb y 1
-is_one x y e = ap (λ z. eqb z 1) e
+is_one : (x y : ℕ) → x ≡ y → (x == 1) ≡ (y == 1)
+is_one x y e = ap (λ z. z == 1) e
 
 -- the aborts, by mask and bits
 breakpoint_status : (q : Request) (v : ℕ) → AbortStatus Breakpoint q v (with_bits 0x10c (0x100 + direction_and_mode q) v)
@@ -147,9 +144,7 @@ status (EntryRefused t a e) q r = memory_status (EntryRefused t a e) refl refl r
 
 abort_notes : (x : Abort) (q : Request) (r : Registers) → AbortNotes x q r (noted x q r)
 abort_notes Breakpoint q r = record { status = status Breakpoint q r; bdr = refl; tear = refl; bear = refl; others = (refl, refl, refl, refl, refl) }
-abort_notes (InvalidEntry t a) q r = record { status = status (InvalidEntry t a) q r; bdr = refl; tear = refl; bear = refl; others = (refl, refl, refl, refl, refl) }
-abort_notes Protection q r = record { status = status Protection q r; bdr = refl; tear = refl; bear = refl; others = (refl, refl, refl, refl, refl) }
-abort_notes (EntryRefused t a e) q r = record { status = status (EntryRefused t a e) q r; bdr = refl; tear = refl; bear = refl; others = (refl, refl, refl, refl, refl) }
+abort_notes x q r = record { status = status x q r; bdr = refl; tear = refl; bear = refl; others = (refl, refl, refl, refl, refl) }
 
 bus_error_notes : (address : ℕ) (r : Registers) → BusErrorNotes address r (bus_error_noted address r)
 bus_error_notes address r = record {
@@ -172,126 +167,86 @@ walk_ends : (l : Layout) (q : Request) (r : Registers) (x : Result Translation A
 walk_ends l q r (Ok t, m) = done _
 walk_ends l q r (Err x, m) = aborts x
 
-kept_ends : (l : Layout) (q : Request) (h : Hit) (s : State) (w : Writable) → EndsBy q s.registers (access_kept l q h s w).outcome
-kept_ends l q h s w = on (permits h.translation.protection (level_of s.registers q)) refl (not (marks_modified q.kind) || h.translation.modified) refl
-  where
-    on : (b : Bool) → permits h.translation.protection (level_of s.registers q) ≡ b → (c : Bool) → (not (marks_modified q.kind) || h.translation.modified) ≡ c → EndsBy q s.registers (access_kept l q h s w).outcome
-    on true b true c = rw (b, access_kept, c) (done _)
-    on true b false c = rw (b, access_kept, c) (walk_ends l q s.registers (walked l q s.registers s.values w))
-    on false b c _ = rw (b, access_kept) (aborts Protection)
-
 sought_ends : (l : Layout) (q : Request) (s : State) (w : Writable) → EndsBy q s.registers (access_sought l q s w).outcome
-sought_ends l q s w = on (find (sought l s.registers q) s.tlb.slots) refl
+sought_ends l q s w = on _ (sought_way l q s w)
   where
-    on : (o : Option Hit) → find (sought l s.registers q) s.tlb.slots ≡ o → EndsBy q s.registers (access_sought l q s w).outcome
-    on None e = rw (e, access_sought) (walk_ends l q s.registers (walked l q s.registers s.values w))
-    on (Some h) e = rw (e, access_sought) (kept_ends l q h s w)
+    on : (e : Effect Accessed) → SoughtWay l q s w e → EndsBy q s.registers e.outcome
+    on _ walked_for = walk_ends l q s.registers (walked l q s.registers s.values w)
+    on _ barred = aborts Protection
+    on _ (served h) = done _
 
 examined_ends : (q : Request) (r : Registers) (m : Values) (x : Result Bool Abort) → EndsBy q r (examined q r m x)
 examined_ends q r m (Ok flag) = done _
 examined_ends q r m (Err x) = aborts x
 
-validated_ends : (l : Layout) (q : Request) (s : State) → EndsBy q s.registers (validate_sought l q s.registers s.tlb.slots s.values)
-validated_ends l q s = on (find (sought l s.registers q) s.tlb.slots) refl
+found_ends : (l : Layout) (q : Request) (o : Option Hit) (s : State) → EndsBy q s.registers (validate_found l q o s.registers s.values)
+found_ends l q None s = examined_ends q s.registers s.values _
+found_ends l q (Some h) s = done _
+
+-- what an outcome of a call notes, its answer put among those of all calls
+abbrev NotesBy : {A : Type 0} → Call → Registers → (A → Reply) → Outcome (Result A Refusal) → Type 0
+NotesBy c r f x = Notes c r (reply f x.answer) x.registers
+
+-- what is done notes nothing
+told : {A : Type 0} (f : A → Reply) (c : Call) (q : Request) → request_of c ≡ Ok q → (r r' : Registers) (x : Result A Refusal) → Ends q r x r' → Notes c r (reply f x) r'
+told f c q e r r' x (done y) = of_none (Ok (f y)) refl
+told f c q e r r' x (aborts y) = of_abort y q (noted y q r) e (abort_notes y q r)
+
+access_notes : (l : Layout) (mode kind address : ℕ) (s : State) (w : Writable) → NotesBy (Access mode kind address) s.registers translation_reply (access l mode kind address s w).outcome
+access_notes l mode kind address s w = on _ (access_way mode kind address s.registers)
   where
-    on : (o : Option Hit) → find (sought l s.registers q) s.tlb.slots ≡ o → EndsBy q s.registers (validate_sought l q s.registers s.tlb.slots s.values)
-    on None e = rw (e, validate_sought) (examined_ends q s.registers s.values _)
-    on (Some h) e = rw (e, validate_sought) (done _)
+    on : (g : Gate) → AccessWay mode kind address s.registers g → NotesBy (Access mode kind address) s.registers translation_reply (access_through l g s w).outcome
+    on _ (access_refused _) = of_none (Err BadAccess) refl
+    on _ (access_breaks q a) = of_abort Breakpoint q (noted Breakpoint q s.registers) a.request (abort_notes Breakpoint q s.registers)
+    on _ (access_passes q _) = of_none (Ok (Translated q.address false)) refl
+    on _ (access_looks q a) = told translation_reply (Access mode kind address) q a.request s.registers _ _ (sought_ends l q s w)
 
--- so far as a request comes
-access_told : (c : Call) (q : Request) → request_of c ≡ Ok q → (r r' : Registers) (x : Accessed) → Ends q r x r' → Notes c r (as_translated x) r'
-access_told c q e r r' x (done (a, i)) = of_none (Translated a i) refl
-access_told c q e r r' x (aborts y) = of_abort y q (noted y q r) e (abort_notes y q r)
-
-validation_told : (c : Call) (q : Request) → request_of c ≡ Ok q → (r r' : Registers) (x : Validated) → Ends q r x r' → Notes c r (as_flag x) r'
-validation_told c q e r r' x (done f) = of_none (Flag f) refl
-validation_told c q e r r' x (aborts y) = of_abort y q (noted y q r) e (abort_notes y q r)
-
-access_notes : (l : Layout) (mode kind address : ℕ) (s : State) (w : Writable) → Notes (Access mode kind address) s.registers (as_translated (access l mode kind address s w).outcome.answer) (access l mode kind address s w).outcome.registers
-access_notes l mode kind address s w = on (access_read mode kind address)
+validate_notes : (l : Layout) (kind address : ℕ) (s : State) → NotesBy (Validate kind address) s.registers Flag (validate l kind address s).outcome
+validate_notes l kind address s = on _ (validation_way kind address s.registers)
   where
-    asked : (q : Request) → access_request mode kind address ≡ Ok q → (b : Bool) → breaks s.registers q ≡ b → (c : Bool) → translates s.registers q.mode ≡ c →
-        Notes (Access mode kind address) s.registers (as_translated (access l mode kind address s w).outcome.answer) (access l mode kind address s w).outcome.registers
-    asked q e true b c _ = rw (e, access_gate, b) (of_abort Breakpoint q (noted Breakpoint q s.registers) e (abort_notes Breakpoint q s.registers))
-    asked q e false b true c = rw (e, access_gate, b, translate_gate, c) (access_told (Access mode kind address) q e s.registers _ _ (sought_ends l q s w))
-    asked q e false b false c = rw (e, access_gate, b, translate_gate, c) (of_none (Translated q.address false) refl)
+    on : (g : Gate) → ValidationWay kind address s.registers g → NotesBy (Validate kind address) s.registers Flag (validate_through l g s.registers s.tlb.slots s.values)
+    on _ validation_refused = of_none (Err BadAccess) refl
+    on _ (validation_passes q _) = of_none (Ok (Flag false)) refl
+    on _ (validation_looks q e) = told Flag (Validate kind address) q e s.registers _ _ (found_ends l q _ s)
 
-    on : AccessRead mode kind address → Notes (Access mode kind address) s.registers (as_translated (access l mode kind address s w).outcome.answer) (access l mode kind address s w).outcome.registers
-    on (unlisted b e) = rw (e, access_gate) (of_none (Refused BadAccess) refl)
-    on (listed_as q b e) = asked q e _ refl _ refl
+store_notes : (code : ℕ) (r : Registers) → Notes (Store code) r (reply Value (store_answer code r)) r
+store_notes code r = of_none (reply Value (store_answer code r)) (grind (arith, nat_tests))
 
-validation_asked : (l : Layout) (kind address : ℕ) (s : State) (q : Request) → validation_request kind address ≡ Ok q → (b : Bool) → translates s.registers q.mode ≡ b →
-    Notes (Validate kind address) s.registers (as_flag (validate l kind address s).outcome.answer) (validate l kind address s).outcome.registers
-validation_asked l kind address s q e true b = rw (e, validation_gate, b) (validation_told (Validate kind address) q e s.registers _ _ (validated_ends l q s))
-validation_asked l kind address s q e false b = rw (e, validation_gate, b) (of_none (Flag false) refl)
+-- what the memory refuses of a bus transfer
+bus_noted : (c : Call) (physical address : ℕ) (e : MemoryError) (r : Registers) → served_address c ≡ Some address → Notes c r (Err (BusError physical e)) (bus_error_noted address r)
+bus_noted c physical address e r h = of_bus_error physical e address (bus_error_noted address r) h (bus_error_notes address r)
 
-validate_notes : (l : Layout) (kind address : ℕ) (s : State) → Notes (Validate kind address) s.registers (as_flag (validate l kind address s).outcome.answer) (validate l kind address s).outcome.registers
-validate_notes l zero address s = validation_asked l zero address s _ refl (translate_user s.registers) refl
-validate_notes l (suc zero) address s = validation_asked l 1 address s _ refl (translate_user s.registers) refl
-validate_notes l (suc (suc kind)) address s =
-    let e : validation_request (suc (suc kind)) address ≡ Err BadAccess = grind (arith, nat_tests) in
-    rw (e, validation_gate) (of_none (Refused BadAccess) refl)
-
--- the outcome of a bus transfer, and of an edit
-store_notes : (code : ℕ) (r : Registers) → Notes (Store code) r (as_value (store_answer code r)) r
-store_notes code r = of_none (as_value (store_answer code r)) (grind (arith, nat_tests))
-
-bus_read_notes : (physical address : ℕ) (s : State) → Notes (BusRead physical address) s.registers (as_value (bus_read physical address s).outcome.answer) (bus_read physical address s).outcome.registers
-bus_read_notes physical address s = on (is_aligned physical) refl
+bus_read_notes : (physical address : ℕ) (s : State) → NotesBy (BusRead physical address) s.registers Value (bus_read physical address s).outcome
+bus_read_notes physical address s = on _ (bus_read_way physical address s)
   where
-    on_answer : (x : Result ℕ MemoryError) → Notes (BusRead physical address) s.registers (as_value (transferred physical address x s).outcome.answer) (transferred physical address x s).outcome.registers
-    on_answer (Ok v) = of_none (Value v) refl
-    on_answer (Err e) = of_bus_error physical e address (bus_error_noted address s.registers) refl (bus_error_notes address s.registers)
+    on : (e : Effect (Result ℕ Refusal)) → BusReadWay physical address s e → NotesBy (BusRead physical address) s.registers Value e.outcome
+    on _ read_misaligned = of_none (Err MisalignedTransfer) refl
+    on _ (read_refused x) = bus_noted (BusRead physical address) physical address x s.registers refl
+    on _ (read_done v) = of_none (Ok (Value v)) refl
 
-    on : (b : Bool) → is_aligned physical ≡ b → Notes (BusRead physical address) s.registers (as_value (bus_read physical address s).outcome.answer) (bus_read physical address s).outcome.registers
-    on true e = rw (e, bus_read) (on_answer (read_answer (s.values (dword physical))))
-    on false e = rw (e, bus_read) (of_none (Refused MisalignedTransfer) refl)
-
-bus_write_notes : (physical address mask v : ℕ) (s : State) (w : Writable) →
-    Notes (BusWrite physical address mask v) s.registers (as_done (bus_write physical address mask v s w).outcome.answer) (bus_write physical address mask v s w).outcome.registers
-bus_write_notes physical address mask v s w = on (is_aligned physical) refl (is_mask mask) refl
+bus_write_notes : (physical address mask v : ℕ) (s : State) (w : Writable) → NotesBy (BusWrite physical address mask v) s.registers (λ _. Done) (bus_write physical address mask v s w).outcome
+bus_write_notes physical address mask v s w = on _ (bus_write_way physical address mask v s w)
   where
-    on_put : (u : ℕ) (x : WriteOutcome) → write_answer (s.values (dword physical)) (w (dword physical)) ≡ x →
-        Notes (BusWrite physical address mask v) s.registers (as_done (put_transferred physical address u s w).outcome.answer) (put_transferred physical address u s w).outcome.registers
-    on_put u (Ok z) e = rw (e, put_transferred) (of_none Done refl)
-    on_put u (Err z) e = rw (e, put_transferred) (of_bus_error physical z address (bus_error_noted address s.registers) refl (bus_error_notes address s.registers))
+    on : (e : Effect (Result (Unit {0}) Refusal)) → BusWriteWay physical address mask v s w e → NotesBy (BusWrite physical address mask v) s.registers (λ _. Done) e.outcome
+    on _ write_misaligned = of_none (Err MisalignedTransfer) refl
+    on _ write_bad_mask = of_none (Err BadMask) refl
+    on _ (write_refused x) = bus_noted (BusWrite physical address mask v) physical address x s.registers refl
+    on _ (write_done u) = of_none (Ok Done) refl
 
-    on_read : (x : Result ℕ MemoryError) → read_answer (s.values (dword physical)) ≡ x →
-        Notes (BusWrite physical address mask v) s.registers (as_done (merge_transferred physical address mask v s w).outcome.answer) (merge_transferred physical address mask v s w).outcome.registers
-    on_read (Ok old) e = rw (e, merge_transferred) (on_put (merged old v mask) _ refl)
-    on_read (Err z) e = rw (e, merge_transferred) (of_bus_error physical z address (bus_error_noted address s.registers) refl (bus_error_notes address s.registers))
-
-    on : (b : Bool) → is_aligned physical ≡ b → (c : Bool) → is_mask mask ≡ c →
-        Notes (BusWrite physical address mask v) s.registers (as_done (bus_write physical address mask v s w).outcome.answer) (bus_write physical address mask v s w).outcome.registers
-    on true b true c = rw (b, bus_write, c) (on_read _ refl)
-    on true b false c = rw (b, bus_write, c) (of_none (Refused BadMask) refl)
-    on false b c _ = rw (b, bus_write) (of_none (Refused MisalignedTransfer) refl)
-
-edit_notes : (l : Layout) (space level page v : ℕ) (s : State) (w : Writable) →
-    Notes (Edit space level page v) s.registers (as_edited (edit l space level page v s w).outcome.answer) (edit l space level page v s w).outcome.registers
-edit_notes l space level page v s w = on_name (named l space level page) refl
+edit_notes : (l : Layout) (x : EditOperands) (s : State) (w : Writable) → NotesBy (Edit x) s.registers Edited (edit l x s w).outcome
+edit_notes l x s w = on _ (edit_way l x s w)
   where
-    on_write : (a : ℕ) (x : WriteOutcome) → write_answer (s.values (dword a)) (w (dword a)) ≡ x →
-        Notes (Edit space level page v) s.registers (as_edited (rewritten a v s w).outcome.answer) (rewritten a v s w).outcome.registers
-    on_write a (Ok z) e = rw (e, rewritten) (of_none (Edited a) refl)
-    on_write a (Err z) e = rw (e, rewritten) (of_none (Refused EntryNotWritten) refl)
-
-    on_reach : (n : EntryName) (o : Option ℕ) → reached l n s.registers s.values ≡ o →
-        Notes (Edit space level page v) s.registers (as_edited (edit_named l n v s w).outcome.answer) (edit_named l n v s w).outcome.registers
-    on_reach n None e = rw (e, edit_named) (of_none (Refused EntryNotWritten) refl)
-    on_reach n (Some a) e = rw (e, edit_named) (on_write a _ refl)
-
-    on_name : (o : Option EntryName) → named l space level page ≡ o →
-        Notes (Edit space level page v) s.registers (as_edited (edit l space level page v s w).outcome.answer) (edit l space level page v s w).outcome.registers
-    on_name None e = rw (e, edit) (of_none (Refused BadEntryName) refl)
-    on_name (Some n) e = rw (e, edit) (on_reach n _ refl)
+    on : (e : Effect (Result ℕ Refusal)) → EditWay l x s w e → NotesBy (Edit x) s.registers Edited e.outcome
+    on _ edit_unnamed = of_none (Err BadEntryName) refl
+    on _ edit_unwritten = of_none (Err EntryNotWritten) refl
+    on _ (edit_done a) = of_none (Ok (Edited a)) refl
 
 flush_notes : (a : ℕ) (s : RunState) → Notes (Flush a) s.unit.registers (flush_open a s).outcome.answer (flush_open a s).outcome.registers
-flush_notes a s = on (is_open a s.open_tokens) refl
+flush_notes a s = on _ (flush_way a s)
   where
-    on : (b : Bool) → is_open a s.open_tokens ≡ b → Notes (Flush a) s.unit.registers (flush_open a s).outcome.answer (flush_open a s).outcome.registers
-    on true e = rw (e, flush_open) (of_none Flushed refl)
-    on false e = rw (e, flush_open) (of_none NotOpen refl)
+    on : (e : Effect Answer) → FlushWay a s e → Notes (Flush a) s.unit.registers e.outcome.answer e.outcome.registers
+    on _ flush_done = of_none (Ok Flushed) refl
+    on _ flush_none = of_none (Ok NotOpen) refl
 
 pub register_notes : (l : Layout) → RegisterNotes l
 register_notes l w s Reset h = absurd (true≢false h)
@@ -301,5 +256,5 @@ register_notes l w s (Access mode kind address) h = access_notes l mode kind add
 register_notes l w s (Validate kind address) h = validate_notes l kind address s.unit
 register_notes l w s (BusRead physical address) h = bus_read_notes physical address s.unit
 register_notes l w s (BusWrite physical address mask v) h = bus_write_notes physical address mask v s.unit w
-register_notes l w s (Edit space level page v) h = edit_notes l space level page v s.unit w
+register_notes l w s (Edit x) h = edit_notes l x s.unit w
 register_notes l w s (Flush a) h = flush_notes a s

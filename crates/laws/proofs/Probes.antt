@@ -1,6 +1,7 @@
 -- Where the unit and the machine that keeps nothing have the same outcomes, what is kept is current: accesses and
 -- validations under a few settings tell all that is in it.
-use Rattle.std.proofs.Common.{◌≡◌, ℕ, zero, suc, ◌*◌, ◌^◌, ◌<◌, ◌≤◌, min, Bool, true, false, cond, not, ◌&&◌, ◌||◌, Some, Ok, Err, Result, sym, refl, ap, ◌∙◌, subst, mul-lt-mul_of_pos_right, arith, lit<}
+use Rattle.std.specs.Prelude.{if◌then◌else◌}
+use Rattle.std.proofs.Common.{◌≡◌, ℕ, zero, suc, ◌*◌, ◌^◌, ◌<◌, ◌≤◌, min, Bool, true, false, not, ◌&&◌, Some, Ok, Err, Result, sym, refl, ap, ◌∙◌, subst, mul-lt-mul_of_pos_right, arith, lit<}
 use Rattle.std.proofs.lemmas.Bool.Decides.{nat_tests}
 use Rattle.entry.specs.Access.{access_level, permits}
 use Rattle.entry.specs.Bits.{flag}
@@ -17,7 +18,7 @@ use Rattle.model.specs.declared.registers.Registers.{Registers}
 use Rattle.model.specs.declared.translation.Hit.{Hit}
 use Rattle.model.specs.declared.translation.Tag.{Tag}
 use Rattle.model.specs.declared.translation.Translation.{Translation}
-use Rattle.model.specs.Access.{access_kept, access_sought, access_through, physical_of, uncached_through, walk_outcome, walked}
+use Rattle.model.specs.Access.{access_kept, access_sought, access_through, needs_mark, physical_of, uncached_through, walk_outcome, walked}
 use Rattle.model.specs.Requests.{looking, access_gate, access_seeks, level_of, marks_modified, seeks_at, sought, translate_gate, validation_gate, validation_seeks}
 use Rattle.model.specs.States.{State, answered}
 use Rattle.model.specs.Tlb.{base_of, find}
@@ -70,12 +71,12 @@ ended l laws level b tag base m t p frame inhibit address f same told =
 record Probe (space : ℕ) (override : Bool) : Type 0 where
   setting : Setting
   translates : flag 0 setting.mcr ≡ true
-  spaces : cond (flag 2 setting.mcr && true) 1 0 ≡ space
+  spaces : (if flag 2 setting.mcr && true then 1 else 0) ≡ space
   overrides : flag 3 setting.mcr ≡ override
   no_read_break : flag 4 setting.mcr ≡ false
   no_write_break : flag 5 setting.mcr ≡ false
 
-probe_of : (v : ℕ) → v < 2 ^ 6 → (space : ℕ) (override : Bool) → flag 0 v ≡ true → cond (flag 2 v && true) 1 0 ≡ space → flag 3 v ≡ override → flag 4 v ≡ false → flag 5 v ≡ false → Probe space override
+probe_of : (v : ℕ) → v < 2 ^ 6 → (space : ℕ) (override : Bool) → flag 0 v ≡ true → (if flag 2 v && true then 1 else 0) ≡ space → flag 3 v ≡ override → flag 4 v ≡ false → flag 5 v ≡ false → Probe space override
 probe_of v small space override a b c d e = record { setting = record { mcr = v; six_bits = small }; translates = a; spaces = b; overrides = c; no_read_break = d; no_write_break = e }
 
 probe : (space : ℕ) (override : Bool) → space ≤ 1 → Probe space override
@@ -92,7 +93,7 @@ hit_ended : (l : Layout) → Lawful l → (w : Writable) (q : Request) (r : Regi
 hit_ended l laws w q r m frame inhibit same = on (walked l q r m w) (walks l laws (level_of r q) (marks_modified q.kind) (sought l r q) (base_of r (sought l r q)) m w) same
   where
     apart : (x : ℕ × Bool) (y : Refusal) → Ok x ≡ Err y → ⊥
-    apart x y h = let z : ◌≡◌ {A = ℕ} 0 1 = cc in omega arith
+    apart x y h = cc
 
     inner : (x y : ℕ × Bool) → ◌≡◌ {A = Result (ℕ × Bool) Refusal} (Ok x) (Ok y) → x ≡ y
     inner x y h = cc
@@ -143,13 +144,13 @@ module _ (l : Layout) (laws : Lawful l) (frames : DistinctFrames l) (w : Writabl
     level_here kind = ap (λ o. access_level User o kind) p.overrides
 
     -- what is kept serves
-    served : (kind : AccessKind) → permits h.translation.protection (level_of r (asks kind)) ≡ true → (not (marks_modified kind) || h.translation.modified) ≡ true →
+    served : (kind : AccessKind) → permits h.translation.protection (level_of r (asks kind)) ≡ true → needs_mark (asks kind) h.translation ≡ false →
         (access_sought l (asks kind) (under p.setting s) w).outcome ≡ answered (Ok (physical_of l h.translation address)) r s.values
     served kind b d = rw (found_here kind, access_sought, b, access_kept, d)
 
     -- a read under this setting, and a write
     accessed : (number : ℕ) (kind : AccessKind) → access_gate r 1 number address ≡ looking (asks kind) →
-        permits h.translation.protection (level_of r (asks kind)) ≡ true → (not (marks_modified kind) || h.translation.modified) ≡ true →
+        permits h.translation.protection (level_of r (asks kind)) ≡ true → needs_mark (asks kind) h.translation ≡ false →
         SameOutcome w w (answered (Ok (physical_of l h.translation address)) r s.values) (walk_outcome l (asks kind) r (walked l (asks kind) r s.values w))
     accessed number kind gate b d =
         let seeks : access_seeks l r 1 number address ≡ Some tag = ap (seeks_at l r) gate ∙ ap Some (sought_here kind) in
@@ -159,7 +160,7 @@ module _ (l : Layout) (laws : Lawful l) (frames : DistinctFrames l) (w : Writabl
         subst (λ x. SameOutcome w w x (walk_outcome l (asks kind) r (walked l (asks kind) r s.values w))) (served kind b d) looked
 
     accessed_ended : (number : ℕ) (kind : AccessKind) → access_gate r 1 number address ≡ looking (asks kind) →
-        permits h.translation.protection (level_of r (asks kind)) ≡ true → (not (marks_modified kind) || h.translation.modified) ≡ true →
+        permits h.translation.protection (level_of r (asks kind)) ≡ true → needs_mark (asks kind) h.translation ≡ false →
         Ended l (level_of r (asks kind)) (marks_modified kind) tag (base_of s.registers tag) s.values h.translation.frame h.translation.inhibit address
     accessed_ended number kind gate b d =
         subst (λ g. Ended l (level_of r (asks kind)) (marks_modified kind) g (base_of r g) s.values h.translation.frame h.translation.inhibit address) (sought_here kind)
@@ -208,7 +209,7 @@ module _ (l : Layout) (laws : Lawful l) (frames : DistinctFrames l) (w : Writabl
         frame = framed ∙ frames size.entry n.second address (ap (λ x. l.physical x (l.offset address)) (sym framed) ∙ sym n.placed);
         inhibit = sym n.inhibits;
         modified = λ d above.
-            let y = accessed_ended true over 1 Write (write_gate true over) (rw (level_here true over Write) (one_permits h.translation.protection above)) d in
+            let y = accessed_ended true over 1 Write (write_gate true over) (rw (level_here true over Write) (one_permits h.translation.protection above)) (ap not d) in
             let first : y.first ≡ n.first = same_entry y.first n.first _ y.first_used.reads n.first_used.reads in
             let reads = subst (λ z. s.values (dword (l.second_entry (l.frame z) tag.page)) ≡ Some y.second) first y.second_used.reads in
             let second : y.second ≡ n.second = same_entry y.second n.second _ reads n.second_used.reads in

@@ -1,18 +1,13 @@
 -- Lemmas of slots: what a search finds, what is left after dropping and filling.
-use Rattle.std.proofs.Common.{◌≡◌, ℕ, zero, suc, Bool, true, false, cond, ◌⊎◌, [], ◌∷◌, get_or, replicate, Some, None, Option, sym, refl, ap, ◌∙◌, inl, inr, arith}
-use Rattle.std.proofs.lemmas.Bool.{true≢false}
+use Rattle.std.specs.Prelude.{if◌then◌else◌}
+use Rattle.std.proofs.Common.{◌≡◌, ℕ, zero, suc, Bool, true, false, ◌⊎◌, [], ◌∷◌, get_or, replicate, Some, None, Option, sym, refl, ap, ◌∙◌, inl, inr, arith}
 use Rattle.std.proofs.lemmas.Bool.Decides.{nat_tests}
+use Rattle.std.proofs.lemmas.Option.{same_Some}
 use Rattle.model.specs.declared.translation.Hit.{Hit}
 use Rattle.model.specs.declared.translation.Tag.{Tag}
 use Rattle.model.specs.declared.translation.Translation.{Translation}
 use Rattle.model.specs.Tlb.{Holds, Slots, Which, dropped, filled, find, find_from, same_tag, without}
 use Rattle.laws.specs.Transparency.{Unique}
-
-pub none_some : {A : Type 0} (x : A) → None ≡ Some x → ⊥
-none_some x h = let z : ◌≡◌ {A = ℕ} 0 1 = cc in omega arith
-
-pub some_same : {A : Type 0} (x y : A) → Some x ≡ Some y → x ≡ y
-some_same x y h = cc
 
 -- equal tags
 pub tag_true : (t u : Tag) → same_tag t u ≡ true → t ≡ u
@@ -25,25 +20,21 @@ pub tag_refl : (t : Tag) → same_tag t t ≡ true
 tag_refl t = grind (arith, nat_tests)
 
 pub tag_false : (t u : Tag) → same_tag t u ≡ false → t ≡ u → ⊥
-tag_false t u h e = let z : true ≡ false = sym (tag_refl u) ∙ ap (λ x. same_tag x u) (sym e) ∙ h in true≢false z
+tag_false t u h e = let z = tag_refl u in cc
 
 -- what stands after dropping stood there before, and is none of those dropped
 pub dropped_some : (which : Which) (o : Option Translation) (t : Translation) → dropped which o ≡ Some t → (o ≡ Some t) × (which t ≡ false)
-dropped_some which None t h = absurd (none_some t h)
-dropped_some which (Some x) t h = go (which x) refl h
-  where
-    go : (b : Bool) → which x ≡ b → cond b None (Some x) ≡ Some t → (Some x ≡ Some t) × (which t ≡ false)
-    go true e g = absurd (none_some t g)
-    go false e g = (g, ap which (sym (some_same x t g)) ∙ e)
+dropped_some which None t h = cc
+dropped_some which (Some x) t h = (grind arith, grind arith)
 
 pub without_holds : (which : Which) (xs : Slots) (i : ℕ) (t : Translation) → Holds (without which xs) i t → Holds xs i t × (which t ≡ false)
-without_holds which [] i t h = absurd (none_some t h)
+without_holds which [] i t h = absurd cc
 without_holds which (o ∷ xs) zero t h = dropped_some which o t h
 without_holds which (o ∷ xs) (suc i) t h = without_holds which xs i t h
 
 -- what stands after a filling is what was put there, or stood elsewhere
 pub filled_holds : (xs : Slots) (i j : ℕ) (n t : Translation) → Holds (filled j n xs) i t → ((i ≡ j) × (t ≡ n)) ⊎ ((i ≡ j → ⊥) × Holds xs i t)
-filled_holds [] i j n t h = absurd (none_some t h)
+filled_holds [] i j n t h = absurd cc
 filled_holds (o ∷ xs) zero zero n t h = inl (refl, cc)
 filled_holds (o ∷ xs) zero (suc j) n t h = inr (omega arith, h)
 filled_holds (o ∷ xs) (suc i) zero n t h = inr (omega arith, h)
@@ -51,29 +42,24 @@ filled_holds (o ∷ xs) (suc i) (suc j) n t h = elim (filled_holds xs i j n t h)
 
 -- what a search finds is kept under the tag, and where it finds nothing none is
 pub found_holds : (k : ℕ) (tag : Tag) (xs : Slots) (h : Hit) → find_from k tag xs ≡ Some h → (i : ℕ) × Holds xs i h.translation × (h.translation.tag ≡ tag)
-found_holds k tag [] h e = absurd (none_some h e)
+found_holds k tag [] h e = absurd cc
 found_holds k tag (None ∷ xs) h e = let r = found_holds (suc k) tag xs h e in (suc r.0, r.1, r.2)
 found_holds k tag (Some x ∷ xs) h e = go (same_tag x.tag tag) refl e (found_holds (suc k) tag xs h)
   where
-    go : (b : Bool) → same_tag x.tag tag ≡ b → cond b (Some (record { slot = k; translation = x })) (find_from (suc k) tag xs) ≡ Some h →
+    go : (b : Bool) → same_tag x.tag tag ≡ b → (if b then Some (record { slot = k; translation = x }) else find_from (suc k) tag xs) ≡ Some h →
         (find_from (suc k) tag xs ≡ Some h → (i : ℕ) × Holds xs i h.translation × (h.translation.tag ≡ tag)) →
         (i : ℕ) × Holds (Some x ∷ xs) i h.translation × (h.translation.tag ≡ tag)
     go true q g ih =
-        let same : x ≡ h.translation = ap (λ y. y.translation) (some_same _ h g) in
+        let same : x ≡ h.translation = ap (λ y. y.translation) (same_Some _ h g) in
         (0, ap Some same, ap (λ y. y.tag) (sym same) ∙ tag_true x.tag tag q)
     go false q g ih = let r = ih g in (suc r.0, r.1, r.2)
 
 pub none_holds : (k : ℕ) (tag : Tag) (xs : Slots) (i : ℕ) (t : Translation) → find_from k tag xs ≡ None → Holds xs i t → t.tag ≡ tag → ⊥
-none_holds k tag [] i t n h e = none_some t h
-none_holds k tag (None ∷ xs) zero t n h e = none_some t h
+none_holds k tag [] i t n h e = cc
+none_holds k tag (None ∷ xs) zero t n h e = cc
 none_holds k tag (None ∷ xs) (suc i) t n h e = none_holds (suc k) tag xs i t n h e
-none_holds k tag (Some x ∷ xs) i t n h e = go (same_tag x.tag tag) refl n (λ j. none_holds (suc k) tag xs j t) i h
-  where
-    go : (b : Bool) → same_tag x.tag tag ≡ b → cond b (Some (record { slot = k; translation = x })) (find_from (suc k) tag xs) ≡ None →
-        ((j : ℕ) → find_from (suc k) tag xs ≡ None → Holds xs j t → t.tag ≡ tag → ⊥) → (j : ℕ) → Holds (Some x ∷ xs) j t → ⊥
-    go true q g ih j h' = none_some _ (sym g)
-    go false q g ih zero h' = tag_false x.tag tag q (ap (λ y. y.tag) (some_same x t h') ∙ e)
-    go false q g ih (suc j) h' = ih j g h' e
+none_holds k tag (Some x ∷ xs) zero t n h e = let z = tag_refl tag in grind arith
+none_holds k tag (Some x ∷ xs) (suc i) t n h e = let z : find_from (suc k) tag xs ≡ None = grind arith in none_holds (suc k) tag xs i t z h e
 
 -- kept once, it is found
 pub kept_found : (xs : Slots) → Unique xs → (i : ℕ) (t : Translation) (tag : Tag) → Holds xs i t → t.tag ≡ tag → (h : Hit) × (find tag xs ≡ Some h) × (h.translation ≡ t)
@@ -84,7 +70,7 @@ kept_found xs unique i t tag h e = go (find tag xs) refl
     go (Some y) q =
         let (j, g, s) = found_holds 0 tag xs y q in
         let same : i ≡ j = unique i j t y.translation h g (e ∙ sym s) in
-        (y, q, some_same y.translation t (sym g ∙ ap (λ k. get_or xs k None) (sym same) ∙ h))
+        (y, q, same_Some y.translation t (sym g ∙ ap (λ k. get_or xs k None) (sym same) ∙ h))
 
 pub unique_without : (which : Which) (xs : Slots) → Unique xs → Unique (without which xs)
 unique_without which xs unique i j t u h g e = unique i j t u (without_holds which xs i t h).0 (without_holds which xs j u g).0 e
@@ -100,6 +86,6 @@ unique_filled xs j n unique alone a b t u h g e = go (filled_holds xs a j n t h)
     go (inr (p, q)) (inr (p', q')) = unique a b t u q q' e
 
 pub none_kept : (i : ℕ) (t : Translation) (n : ℕ) → Holds (replicate n None) i t → ⊥
-none_kept i t zero h = none_some t h
-none_kept zero t (suc n) h = none_some t h
+none_kept i t zero h = cc
+none_kept zero t (suc n) h = cc
 none_kept (suc i) t (suc n) h = none_kept i t n h

@@ -1,5 +1,6 @@
 -- Transparent exactly where nothing stale is kept.
 use Rattle.std.proofs.Common.{◌≡◌, Some, None, Option, sym, refl, ap, ◌∙◌, subst}
+use Rattle.std.proofs.lemmas.Option.{none-some, same_Some}
 use Rattle.entry.specs.Layout.{DistinctFrames, Layout, Lawful}
 use Rattle.physical.specs.Stores.{Writable}
 use Rattle.model.specs.declared.translation.Tag.{Tag}
@@ -14,7 +15,7 @@ use Rattle.laws.proofs.Currents.{Current, Sized, current_tells, tells_current}
 use Rattle.laws.proofs.Hits.{KeptCurrent, access_same, same_outcome, validation_same}
 use Rattle.laws.proofs.Invariant.{Invariant, invariant_run}
 use Rattle.laws.proofs.Probes.{probed}
-use Rattle.laws.proofs.Slots.{kept_found, none_some, some_same}
+use Rattle.laws.proofs.Slots.{kept_found}
 
 pub transparent : (l : Layout) → Lawful l → (w : Writable) (s : State) (tag : Tag) → NoneStale l s tag → Transparent l w s tag
 transparent l laws w s tag none = record {
@@ -23,7 +24,7 @@ transparent l laws w s tag none = record {
 }
   where
     seeks_only : {o : Option Tag} {g : Tag} → o ≡ Some tag → o ≡ Some g → g ≡ tag
-    seeks_only {o} {g} h e = some_same g tag (sym e ∙ h)
+    seeks_only {o} {g} h e = same_Some g tag (sym e ∙ h)
 
     kept : (v : Setting) (g : Tag) → g ≡ tag → KeptCurrent l (under v s) g
     kept v g same i t h e = current_tells l s.registers s.values t (none i t h (e ∙ same))
@@ -48,10 +49,10 @@ unsought_alike l = record {
     access_on : (w : Writable) (s : State) (g : Gate) → seeks_at l s.registers g ≡ None → ((access_through l g s w).outcome ≡ uncached_through l g s.registers s.values w) × ((access_through l g s w).action ≡ rest)
     access_on w s (stopped x r) e = (refl, refl)
     access_on w s (untranslated q) e = (refl, refl)
-    access_on w s (looking q) e = absurd (none_some _ (sym e))
+    access_on w s (looking q) e = absurd (none-some _ (sym e))
 
     validation_on : (s : State) (g : Gate) → seeks_at l s.registers g ≡ None →
         (validate_through l g s.registers s.tlb.slots s.values ≡ uncached_validate_through l g s.registers s.values) × (rest ≡ rest)
     validation_on s (stopped x r) e = (refl, refl)
     validation_on s (untranslated q) e = (refl, refl)
-    validation_on s (looking q) e = absurd (none_some _ (sym e))
+    validation_on s (looking q) e = absurd (none-some _ (sym e))

@@ -19,7 +19,7 @@ flushing l w (Some a) s = refl
 
 one_unfolded : (l : Layout) (w : Writable) (c : Command) (s : RunState) → after l w (unfolded l w c s) s ≡ (command_step l w c s).1
 one_unfolded l w (One c) s = refl
-one_unfolded l w (EditThenFlush space level page v) s = flushing l w (token_of (step l w (Edit space level page v) s).0) (step l w (Edit space level page v) s).1
+one_unfolded l w (EditThenFlush x) s = flushing l w (token_of (step l w (Edit x) s).0) (step l w (Edit x) s).1
 
 runs : (l : Layout) (w : Writable) (cs : List Command) (s : RunState) → after l w (all_unfolded l w cs s) s ≡ after_commands l w cs s
 runs l w [] s = refl
@@ -30,7 +30,7 @@ runs l w (c ∷ cs) s =
 
 first_answer : (l : Layout) (w : Writable) (c : Command) (s : RunState) → take 1 (answers l w (unfolded l w c s) s) ≡ (command_step l w c s).0 ∷ []
 first_answer l w (One c) s = refl
-first_answer l w (EditThenFlush space level page v) s = refl
+first_answer l w (EditThenFlush x) s = refl
 
 pub unfolds : (l : Layout) (w : Writable) → Unfolds l w
 unfolds l w = record { runs = runs l w; first_answer = first_answer l w }

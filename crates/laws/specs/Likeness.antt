@@ -1,9 +1,9 @@
 -- Two units that cannot be told apart until something stale is looked for.
-use Rattle.std.specs.Prelude.{◌≡◌, ℕ, ◌<◌, ◌≤◌, true, List, length, Some, None, Option}
+use Rattle.std.specs.Prelude.{◌≡◌, ℕ, ◌<◌, ◌≤◌, List, length, Some, None, Option, IsTrue}
 use Rattle.entry.specs.Layout.{Layout}
 use Rattle.physical.specs.Stores.{Values, Writable}
 use Rattle.model.specs.declared.call.Call.{Call}
-use Rattle.model.specs.declared.call.Call.TheVariants.{Reset, Load, Store, Access, Validate, BusRead, BusWrite, Edit, Flush}
+use Rattle.model.specs.declared.call.Call.TheVariants.{Access, Validate, Flush}
 use Rattle.model.specs.declared.registers.Registers.{Registers}
 use Rattle.model.specs.declared.translation.Tag.{Tag}
 use Rattle.model.specs.Calls.{RunState, after, effect, is_open, start}
@@ -14,15 +14,9 @@ use Rattle.laws.specs.Transparency.{NoneStale}
 
 -- the tag that a call looks for, if any
 abbrev pub seeks : Layout → Registers → Call → Option Tag
-seeks l r Reset = None
-seeks l r (Load code v) = None
-seeks l r (Store code) = None
 seeks l r (Access mode kind address) = access_seeks l r mode kind address
 seeks l r (Validate kind address) = validation_seeks l r kind address
-seeks l r (BusRead physical address) = None
-seeks l r (BusWrite physical address mask v) = None
-seeks l r (Edit space level page v) = None
-seeks l r (Flush a) = None
+seeks l r _ = None
 
 -- the call c, made in s, looks for nothing of which a stale translation is kept
 abbrev pub SeeksNoneStale : Layout → RunState → Call → Type 0
@@ -30,7 +24,7 @@ SeeksNoneStale l s c = (tag : Tag) → seeks l s.unit.registers c ≡ Some tag �
 
 -- if it is a flush, a token of that address is open
 abbrev pub TokenOpen : RunState → Call → Type 0
-TokenOpen s c = (a : ℕ) → c ≡ Flush a → is_open a s.open_tokens ≡ true
+TokenOpen s c = (a : ℕ) → c ≡ Flush a → IsTrue (is_open a s.open_tokens)
 
 abbrev pub Fair : Layout → RunState → Call → Type 0
 Fair l s c = SeeksNoneStale l s c × TokenOpen s c

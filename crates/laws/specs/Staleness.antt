@@ -1,9 +1,9 @@
 -- What has happened where a kept translation is stale.
-use Rattle.std.specs.Prelude.{◌≡◌, ℕ, ◌<◌, Bool, true, false, ◌⊎◌, List, length, ◌≢◌}
+use Rattle.std.specs.Prelude.{◌≡◌, ℕ, ◌<◌, Bool, true, false, ◌⊎◌, List, length, ◌≢◌, IsTrue, IsFalse}
 use Rattle.entry.specs.Layout.{Layout}
 use Rattle.physical.specs.Stores.{Values, Writable, dword}
 use Rattle.model.specs.declared.call.Call.{Call}
-use Rattle.model.specs.declared.call.Call.TheVariants.{Reset, Load, Store, Access, Validate, BusRead, BusWrite, Edit, Flush}
+use Rattle.model.specs.declared.call.Call.TheVariants.{BusWrite, Edit}
 use Rattle.model.specs.declared.translation.Translation.{Translation}
 use Rattle.model.specs.Calls.{RunState, after, effect, start, step}
 use Rattle.model.specs.Currency.{current}
@@ -23,23 +23,17 @@ pub record Leaves (l : Layout) (w : Writable) (s : RunState) (c : Call) (i : ℕ
 
 -- bus writes and edits
 abbrev pub is_writer : Call → Bool
-is_writer Reset = false
-is_writer (Load code v) = false
-is_writer (Store code) = false
-is_writer (Access mode kind address) = false
-is_writer (Validate kind address) = false
-is_writer (BusRead physical address) = false
 is_writer (BusWrite physical address mask v) = true
-is_writer (Edit space level page v) = true
-is_writer (Flush a) = false
+is_writer (Edit x) = true
+is_writer _ = false
 
 -- the call c, made in s, makes another double-word of the one at that address
 abbrev pub Alters : Layout → Writable → RunState → Call → ℕ → Type 0
-Alters l w s c a = (step l w c s).1.unit.values (dword a) ≡ s.unit.values (dword a) → ⊥
+Alters l w s c a = (step l w c s).1.unit.values (dword a) ≢ s.unit.values (dword a)
 
 -- the call c, made in s, is a bus write or an edit that changes one of the two entries that t was read from
 pub record Changes (l : Layout) (w : Writable) (s : RunState) (c : Call) (t : Translation) : Type 0 where
-  pub writer : is_writer c ≡ true
+  pub writer : IsTrue (is_writer c)
   pub alters : Alters l w s c t.first ⊎ Alters l w s c t.second
 
 -- by places in the list: the call at `keeper` put t into slot i, no later call filled or emptied that slot, and the later
@@ -57,12 +51,12 @@ pub record OvertakenBy (l : Layout) (w : Writable) (s : RunState) (calls : List 
 abbrev pub StaleOnlyByWrite : Layout → Type 0
 StaleOnlyByWrite l = (w : Writable) (m : Values) (calls : List Call) (i : ℕ) (t : Translation) →
     Holds (after l w calls (start m)).unit.tlb.slots i t →
-    current l (after l w calls (start m)).unit.registers (after l w calls (start m)).unit.values t ≡ false →
+    IsFalse (current l (after l w calls (start m)).unit.registers (after l w calls (start m)).unit.values t) →
     OvertakenBy l w (start m) calls i t
 
 -- and in each state on the way: a call that is neither a bus write nor an edit leaves current what it leaves in its slot
 abbrev pub OnlyWritersMakeStale : Layout → Type 0
 OnlyWritersMakeStale l = (w : Writable) (m : Values) (calls : List Call) (s : RunState) (c : Call) (i : ℕ) (t : Translation) →
-    s ≡ after l w calls (start m) → is_writer c ≡ false → Leaves l w s c i t →
-    current l s.unit.registers s.unit.values t ≡ true →
-    current l (step l w c s).1.unit.registers (step l w c s).1.unit.values t ≡ true
+    s ≡ after l w calls (start m) → IsFalse (is_writer c) → Leaves l w s c i t →
+    IsTrue (current l s.unit.registers s.unit.values t) →
+    IsTrue (current l (step l w c s).1.unit.registers (step l w c s).1.unit.values t)

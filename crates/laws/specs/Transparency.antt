@@ -1,10 +1,10 @@
 -- Transparency: that what is kept cannot be told from what a walk finds.
-use Rattle.std.specs.Prelude.{◌≡◌, ℕ, ◌*◌, ◌^◌, ◌<◌, ◌≤◌, Bool, true, false, ◌↔◌, List, Some, None, Ok, Option}
+use Rattle.std.specs.Prelude.{◌≡◌, ℕ, ◌*◌, ◌^◌, ◌<◌, ◌≤◌, Bool, false, ◌↔◌, List, Some, None, Ok, Option, IsTrue}
 use Rattle.entry.specs.Layout.{Layout}
 use Rattle.physical.specs.Stores.{Values, Writable}
-use Rattle.model.specs.declared.call.Answer.TheVariants.{Translated}
 use Rattle.model.specs.declared.call.Call.{Call}
 use Rattle.model.specs.declared.call.Call.TheVariants.{Access}
+use Rattle.model.specs.declared.call.Reply.TheVariants.{Translated}
 use Rattle.model.specs.declared.call.Request.{Request}
 use Rattle.model.specs.declared.registers.Registers.{Registers}
 use Rattle.model.specs.declared.translation.Tag.{Tag}
@@ -12,7 +12,6 @@ use Rattle.model.specs.declared.translation.Translation.{Translation}
 use Rattle.model.specs.Access.{access, uncached_access}
 use Rattle.model.specs.Calls.{RunState, after, start, step}
 use Rattle.model.specs.Currency.{current, found_now}
-use Rattle.model.specs.Registers.{with_mcr}
 use Rattle.model.specs.Requests.{access_request, access_seeks, marks_modified, validation_seeks}
 use Rattle.model.specs.States.{State}
 use Rattle.model.specs.Tlb.{Holds, Slots, base_of, rest}
@@ -25,7 +24,7 @@ Unique xs = (i j : ℕ) (t u : Translation) → Holds xs i t → Holds xs j u �
 
 -- no stale translation is kept under the tag: each that is, is current
 abbrev pub NoneStale : Layout → State → Tag → Type 0
-NoneStale l s tag = (i : ℕ) (t : Translation) → Holds s.tlb.slots i t → t.tag ≡ tag → current l s.registers s.values t ≡ true
+NoneStale l s tag = (i : ℕ) (t : Translation) → Holds s.tlb.slots i t → t.tag ≡ tag → IsTrue (current l s.registers s.values t)
 
 -- the tags that a call can look for: of a space, 0 or 1, and a page of those there are
 abbrev pub Nameable : Layout → Tag → Type 0
@@ -37,10 +36,10 @@ pub record Setting : Type 0 where
   pub six_bits : mcr < 2 ^ 6
 
 abbrev pub set_to : Setting → Registers → Registers
-set_to v r = with_mcr v.mcr r
+set_to v r = record r { mcr = v.mcr }
 
 abbrev pub under : Setting → State → State
-under v s = record { registers = set_to v s.registers; tlb = s.tlb; values = s.values }
+under v s = record s { registers = set_to v s.registers }
 
 -- an address of the pages there are
 abbrev pub Addressable : Layout → ℕ → Type 0
@@ -72,18 +71,18 @@ pub record UnsoughtAlike (l : Layout) : Type 0 where
 
 -- whether the tables, walked now from the tag, lead to a second entry that is marked modified
 abbrev pub says_modified : Option Translation → Bool
-says_modified None = false
 says_modified (Some t) = t.modified
+says_modified None = false
 
 abbrev pub MarkedModified : Layout → State → Tag → Type 0
-MarkedModified l s tag = says_modified (found_now l tag (base_of s.registers tag) s.values) ≡ true
+MarkedModified l s tag = IsTrue (says_modified (found_now l tag (base_of s.registers tag) s.values))
 
 -- after every list of calls: an access of a kind that marks pages modified, that is translated and done, leaves its page
 -- marked modified in the tables, unless something stale was kept of it
 abbrev pub WritesMarkPages : Layout → Type 0
 WritesMarkPages l = (w : Writable) (m : Values) (calls : List Call) (s : RunState) (mode kind address a : ℕ) (inhibit : Bool) (q : Request) (tag : Tag) →
     s ≡ after l w calls (start m) →
-    access_request mode kind address ≡ Ok q → marks_modified q.kind ≡ true →
+    access_request mode kind address ≡ Ok q → IsTrue (marks_modified q.kind) →
     access_seeks l s.unit.registers mode kind address ≡ Some tag → NoneStale l s.unit tag →
-    (step l w (Access mode kind address) s).0 ≡ Translated a inhibit →
+    (step l w (Access mode kind address) s).0 ≡ Ok (Translated a inhibit) →
     MarkedModified l (step l w (Access mode kind address) s).1.unit tag

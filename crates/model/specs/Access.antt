@@ -1,5 +1,5 @@
 -- An access: of the unit, and of the machine that keeps nothing.
-use Rattle.std.specs.Prelude.{ℕ, Bool, false, cond, not, ◌||◌, Some, None, Ok, Err, Result}
+use Rattle.std.specs.Prelude.{ℕ, Bool, false, not, ◌&&◌, Some, None, Ok, Err, Option, Result, if◌then◌else◌}
 use Rattle.entry.specs.Access.{permits}
 use Rattle.entry.specs.Layout.{Layout}
 use Rattle.physical.specs.Stores.{Values, Writable}
@@ -27,7 +27,7 @@ physical_of l t address = (l.physical t.frame (l.offset address), t.inhibit)
 
 -- an abort answers, and notes itself in the registers
 abbrev pub aborted : {A : Type 0} → Abort → Request → Registers → Values → Outcome (Result A Refusal)
-aborted x q r m = record { answer = Err (Aborted x); registers = noted x q r; values = m }
+aborted x q r m = answered (Err (Aborted x)) (noted x q r) m
 
 -- the walk of a request
 abbrev pub walked : Layout → Request → Registers → Values → Writable → Result Translation Abort × Values
@@ -48,22 +48,24 @@ access_walking l q s w =
     let end = walked l q s.registers s.values w in
     record { outcome = walk_outcome l q s.registers end; action = walk_action l q s end.0 }
 
--- its page is kept: PL is asked, and M if the page is to be marked modified
+-- whether a page that is kept has to be walked for all the same: it is to be marked modified, and is not known to be
+abbrev pub needs_mark : Request → Translation → Bool
+needs_mark q t = marks_modified q.kind && not t.modified
+
+-- its page is kept: PL is asked, then whether it has to be marked
 abbrev pub access_kept : Layout → Request → Hit → State → Writable → Effect Accessed
 access_kept l q h s w =
-    cond (permits h.translation.protection (level_of s.registers q))
-    (cond (not (marks_modified q.kind) || h.translation.modified)
-    (record { outcome = answered (Ok (physical_of l h.translation q.address)) s.registers s.values; action = hit h })
-    (access_walking l q s w))
-    (record { outcome = aborted Protection q s.registers s.values; action = rest })
+    if not (permits h.translation.protection (level_of s.registers q)) then record { outcome = aborted Protection q s.registers s.values; action = rest }
+    else if needs_mark q h.translation then access_walking l q s w
+    else record { outcome = answered (Ok (physical_of l h.translation q.address)) s.registers s.values; action = hit h }
 
--- its page is looked for
+-- its page is looked for, and found to be kept or not
+abbrev pub access_found : Layout → Request → Option Hit → State → Writable → Effect Accessed
+access_found l q None s w = access_walking l q s w
+access_found l q (Some h) s w = access_kept l q h s w
+
 abbrev pub access_sought : Layout → Request → State → Writable → Effect Accessed
-access_sought l q s w =
-    elim (find (sought l s.registers q) s.tlb.slots) [
-      | None ↦ access_walking l q s w
-      | Some h ↦ access_kept l q h s w
-    ]
+access_sought l q s w = access_found l q (find (sought l s.registers q) s.tlb.slots) s w
 
 -- an access, from how far it comes
 abbrev pub access_through : Layout → Gate → State → Writable → Effect Accessed

@@ -2,12 +2,11 @@
 use Rattle.std.specs.Prelude.{◌≡◌, ℕ, List, [], ◌∷◌, ◌++◌, take, Some, None, Option}
 use Rattle.entry.specs.Layout.{Layout}
 use Rattle.physical.specs.Stores.{Writable}
-use Rattle.model.specs.declared.call.Answer.{Answer}
 use Rattle.model.specs.declared.call.Call.{Call}
 use Rattle.model.specs.declared.call.Call.TheVariants.{Edit, Flush}
 use Rattle.model.specs.declared.call.Command.{Command}
 use Rattle.model.specs.declared.call.Command.TheVariants.{One, EditThenFlush}
-use Rattle.model.specs.Calls.{RunState, after, answers, step, token_of}
+use Rattle.model.specs.Calls.{Answer, RunState, after, answers, step, token_of}
 
 -- the flush that an edit calls for: of its token, if it handed out one
 abbrev pub then_flush : Option ℕ → List Call
@@ -16,8 +15,7 @@ then_flush (Some a) = Flush a ∷ []
 
 abbrev pub unfolded : Layout → Writable → Command → RunState → List Call
 unfolded l w (One c) s = c ∷ []
-unfolded l w (EditThenFlush space level page v) s =
-    Edit space level page v ∷ then_flush (token_of (step l w (Edit space level page v) s).0)
+unfolded l w (EditThenFlush x) s = Edit x ∷ then_flush (token_of (step l w (Edit x) s).0)
 
 -- the token is flushed, if there is one
 abbrev pub flushed_after : Layout → Writable → Option ℕ → RunState → RunState
@@ -27,8 +25,8 @@ flushed_after l w (Some a) s = (step l w (Flush a) s).1
 -- an edit that is flushed at once answers as the edit does
 abbrev pub command_step : Layout → Writable → Command → RunState → Answer × RunState
 command_step l w (One c) s = step l w c s
-command_step l w (EditThenFlush space level page v) s =
-    let done = step l w (Edit space level page v) s in
+command_step l w (EditThenFlush x) s =
+    let done = step l w (Edit x) s in
     (done.0, flushed_after l w (token_of done.0) done.1)
 
 -- lists of commands: the state after them, their answers, and the calls that they unfold into

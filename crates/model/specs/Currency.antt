@@ -1,5 +1,7 @@
 -- Whether a kept translation still tells what the tables say.
-use Rattle.std.specs.Prelude.{ℕ, Bool, false, cond, not, ◌&&◌, ◌||◌, Some, None, Option, ◌==◌, nat_lt}
+use Rattle.std.specs.Prelude.{ℕ, Bool, false, not, ◌&&◌, ◌||◌, Some, None, Option, if◌then◌else◌, ◌==◌, nat_lt}
+use Rattle.std.specs.Bool.{beq}
+use Rattle.std.specs.Option.{option_and_then, option_map, option_map_or}
 use Rattle.entry.specs.Layout.{Layout}
 use Rattle.physical.specs.Stores.{Values, dword}
 use Rattle.model.specs.declared.registers.Registers.{Registers}
@@ -10,29 +12,27 @@ use Rattle.model.specs.Walk.{found}
 
 -- the entry at an address, if it is present with V and R set
 abbrev pub used_entry : Layout → ℕ → Values → Option ℕ
-used_entry l a m = elim (m (dword a)) [ None ↦ None | Some e ↦ cond (l.valid e && l.referenced e) (Some e) None ]
+used_entry l a m = option_and_then (λ e. if l.valid e && l.referenced e then Some e else None) (m (dword a))
 
--- what a walk of level 0 finds now, if it need not mark anything referenced
+-- what a walk of level 0 finds now in the second table; the first entry, at a, is e
+abbrev pub found_second : Layout → Tag → ℕ → Values → ℕ → Option Translation
+found_second l tag a m e =
+    let b = l.second_entry (l.frame e) tag.page in
+    option_map (found l tag a e b) (used_entry l b m)
+
+-- what it finds from the first, if it need not mark anything referenced
 abbrev pub found_now : Layout → Tag → ℕ → Values → Option Translation
 found_now l tag base m =
     let a = l.first_entry base tag.page in
-    elim (used_entry l a m) [
-      | None ↦ None
-      | Some e ↦
-          let b = l.second_entry (l.frame e) tag.page in
-          elim (used_entry l b m) [ None ↦ None | Some f ↦ Some (found l tag a e b f) ]
-    ]
-
-abbrev pub same_flag : Bool → Bool → Bool
-same_flag b c = cond b c (not c)
+    option_and_then (found_second l tag a m) (used_entry l a m)
 
 -- the translation t says what n says: protection, frame and cache inhibit, and modified if t is and its protection lets a write pass
 abbrev pub says_as : Translation → Translation → Bool
 says_as t n =
-    (t.protection == n.protection) && (t.frame == n.frame && (same_flag t.inhibit n.inhibit
-    && (not (t.modified && nat_lt 0 t.protection) || n.modified)))
+    t.protection == n.protection && t.frame == n.frame && beq t.inhibit n.inhibit
+    && (not (t.modified && nat_lt 0 t.protection) || n.modified)
 
 -- current: such a walk now, from the base register of its space, finds what it says. Otherwise it is stale. Where the
 -- entries lie is not compared
 abbrev pub current : Layout → Registers → Values → Translation → Bool
-current l r m t = elim (found_now l t.tag (base_of r t.tag) m) [ None ↦ false | Some n ↦ says_as t n ]
+current l r m t = option_map_or (says_as t) (found_now l t.tag (base_of r t.tag) m) false

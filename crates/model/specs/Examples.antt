@@ -1,11 +1,11 @@
 -- Two runs worked out by the definitions.
-use Rattle.std.specs.Prelude.{◌≡◌, ℕ, Bool, true, false, cond, List, [], ◌∷◌, replicate, Some, None, nat_lt}
+use Rattle.std.specs.Prelude.{◌≡◌, ℕ, Bool, true, false, List, [], ◌∷◌, replicate, Some, None, Ok, Err, if◌then◌else◌, nat_lt, IsTrue}
 use Rattle.entry.specs.NS32382.{ns32382}
 use Rattle.physical.specs.Stores.{Values, dword}
 use Rattle.physical.specs.Made.{everywhere}
-use Rattle.model.specs.declared.call.Answer.TheVariants.{Done, Value, Translated, Edited, Flushed, Refused}
 use Rattle.model.specs.declared.call.Call.{Call}
 use Rattle.model.specs.declared.call.Call.TheVariants.{Load, Access, BusRead, BusWrite, Edit, Flush}
+use Rattle.model.specs.declared.call.Reply.TheVariants.{Done, Value, Translated, Edited, Flushed}
 use Rattle.model.specs.declared.refusal.Abort.TheVariants.{Protection}
 use Rattle.model.specs.declared.refusal.Refusal.TheVariants.{Aborted}
 use Rattle.model.specs.declared.translation.Translation.{Translation}
@@ -15,7 +15,7 @@ use Rattle.model.specs.Tlb.{Holds}
 
 -- 32,768 bytes of zeroed RAM at address 0
 abbrev pub zeroed_ram : Values
-zeroed_ram q = cond (nat_lt q 8192) (Some 0) None
+zeroed_ram q = if nat_lt q 8192 then Some 0 else None
 
 -- PTB0 and MCR are loaded and two entries written; then a user reads, a user writes, and the second entry is read
 abbrev pub worked_calls : List Call
@@ -50,14 +50,14 @@ KeptThen v is_current =
 
 pub record WorkedRun : Type 0 where
   pub answers : answers ns32382 everywhere worked_calls (start zeroed_ram)
-      ≡ Done ∷ Done ∷ Done ∷ Done ∷ Translated 0x5004 false ∷ Refused (Aborted Protection) ∷ Value 0x5085 ∷ []
+      ≡ Ok Done ∷ Ok Done ∷ Ok Done ∷ Ok Done ∷ Ok (Translated 0x5004 false) ∷ Err (Aborted Protection) ∷ Ok (Value 0x5085) ∷ []
   pub registers : worked_end.unit.registers
       ≡ record { bar = 0; bmr = 0; bdr = 0; bear = 0; mcr = 3; msr = 0x00f; tear = 0x00403004; ptb0 = 0x1000; ptb1 = 0 }
   pub kept : worked_end.unit.tlb.slots ≡ Some worked_translation ∷ replicate 31 None
   pub next : worked_end.unit.tlb.next ≡ 1
   pub first_entry : worked_end.unit.values (dword 0x1004) ≡ Some 0x2087
   pub second_entry : worked_end.unit.values (dword 0x200c) ≡ Some 0x5085
-  pub current_at_end : current ns32382 worked_end.unit.registers worked_end.unit.values worked_translation ≡ true
+  pub current_at_end : IsTrue (current ns32382 worked_end.unit.registers worked_end.unit.values worked_translation)
   -- with R and a bit of the user's set it is as current as before; with R clear it is stale
   pub still_current : KeptThen 0x00005285 true
   pub stale : KeptThen 0x00005005 false
@@ -69,7 +69,7 @@ write_calls =
     Load 12 0x1000 ∷ Load 9 3 ∷ BusWrite 0x1004 0 15 0x2007 ∷ BusWrite 0x200c 0 15 0x5007
     ∷ Access 1 0 0x00403004 ∷ BusRead 0x200c 0
     ∷ Access 1 1 0x00403004 ∷ BusRead 0x200c 0 ∷ Access 1 1 0x00403008
-    ∷ Edit 0 2 0x403 0x5087 ∷ Flush 0x200c
+    ∷ Edit (record { space = 0; level = 2; page = 0x403; value = 0x5087 }) ∷ Flush 0x200c
     ∷ Access 1 1 0x00403004 ∷ BusRead 0x200c 0 ∷ []
 
 abbrev pub write_end : RunState
@@ -77,11 +77,11 @@ write_end = after ns32382 everywhere write_calls (start zeroed_ram)
 
 pub record WriteRun : Type 0 where
   pub answers : answers ns32382 everywhere write_calls (start zeroed_ram)
-      ≡ Done ∷ Done ∷ Done ∷ Done
-      ∷ Translated 0x5004 false ∷ Value 0x5087
-      ∷ Translated 0x5004 false ∷ Value 0x5187 ∷ Translated 0x5008 false
-      ∷ Edited 0x200c ∷ Flushed
-      ∷ Translated 0x5004 false ∷ Value 0x5187 ∷ []
+      ≡ Ok Done ∷ Ok Done ∷ Ok Done ∷ Ok Done
+      ∷ Ok (Translated 0x5004 false) ∷ Ok (Value 0x5087)
+      ∷ Ok (Translated 0x5004 false) ∷ Ok (Value 0x5187) ∷ Ok (Translated 0x5008 false)
+      ∷ Ok (Edited 0x200c) ∷ Ok Flushed
+      ∷ Ok (Translated 0x5004 false) ∷ Ok (Value 0x5187) ∷ []
   -- slot 0 was filled by the read and emptied by the first write, slot 1 filled by that write and emptied by the flush
   pub kept : write_end.unit.tlb.slots
       ≡ None ∷ None

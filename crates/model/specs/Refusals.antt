@@ -1,10 +1,10 @@
 -- Refusals in numbers, and what an abort or a bus error notes in the registers.
-use Rattle.std.specs.Prelude.{ℕ, ◌+◌, ◌-◌, Bool, true, false, cond, bit_and, bit_or}
+use Rattle.std.specs.Prelude.{ℕ, ◌+◌, ◌-◌, Bool, true, false, if◌then◌else◌, bit_and, bit_or}
 use Rattle.entry.specs.Access.{is_user}
 use Rattle.entry.specs.declared.TableLevel.{TableLevel}
 use Rattle.entry.specs.declared.TableLevel.TheVariants.{First, Second}
 use Rattle.entry.specs.declared.access.AccessKind.{AccessKind}
-use Rattle.entry.specs.declared.access.AccessKind.TheVariants.{Read, Write, ReadModifyWrite}
+use Rattle.entry.specs.declared.access.AccessKind.TheVariants.{Write}
 use Rattle.physical.specs.Stores.{reason_number}
 use Rattle.model.specs.declared.call.Request.{Request}
 use Rattle.model.specs.declared.refusal.Abort.{Abort}
@@ -13,7 +13,6 @@ use Rattle.model.specs.declared.refusal.Refusal.{Refusal}
 use Rattle.model.specs.declared.refusal.Refusal.TheVariants.{UnknownRegister, WriteOnlyRegister, BadAccess, MisalignedTransfer, BadMask, BusError, Aborted, BadEntryName, EntryNotWritten}
 use Rattle.model.specs.declared.refusal.Report.{Report}
 use Rattle.model.specs.declared.registers.Registers.{Registers}
-use Rattle.model.specs.Registers.{with_bdr, with_bear, with_msr, with_tear}
 
 abbrev pub number_of_level : TableLevel → ℕ
 number_of_level First = 1
@@ -51,13 +50,12 @@ with_bits mask bits w = bit_or (bit_and w (0xffffffff - mask)) bits
 
 -- the kinds for which the data go out to memory
 abbrev pub is_write : AccessKind → Bool
-is_write Read = false
 is_write Write = true
-is_write ReadModifyWrite = false
+is_write _ = false
 
 -- DDT (bit 2), the direction of the data, and UST (bit 3), who asked
 abbrev pub direction_and_mode : Request → ℕ
-direction_and_mode q = cond (is_write q.kind) 0x004 0 + cond (is_user q.mode) 0x008 0
+direction_and_mode q = (if is_write q.kind then 0x004 else 0) + (if is_user q.mode then 0x008 else 0)
 
 -- TEX (bits 0 and 1), the kind of translation abort
 abbrev pub exception : TableLevel → ℕ
@@ -66,16 +64,16 @@ exception Second = 2
 
 -- a translation abort: TEX, DDT and UST are set to these, and TEAR to the address
 abbrev pub translation_noted : ℕ → Request → Registers → Registers
-translation_noted tex q r = with_tear q.address (with_msr (with_bits 0x00f (tex + direction_and_mode q) r.msr) r)
+translation_noted tex q r = record r { msr = with_bits 0x00f (tex + direction_and_mode q) r.msr; tear = q.address }
 
 -- what an abort notes: DDT and UST in every case; BP (bit 8) and BDR for a breakpoint, TEX and TEAR for a translation
 -- abort, ME (bit 10) and BEAR where the memory refused. All else stays.
 abbrev pub noted : Abort → Request → Registers → Registers
-noted Breakpoint q r = with_bdr q.address (with_msr (with_bits 0x10c (0x100 + direction_and_mode q) r.msr) r)
+noted Breakpoint q r = record r { msr = with_bits 0x10c (0x100 + direction_and_mode q) r.msr; bdr = q.address }
 noted (InvalidEntry t a) q r = translation_noted (exception t) q r
 noted Protection q r = translation_noted 3 q r
-noted (EntryRefused t a e) q r = with_bear q.address (with_msr (with_bits 0x40c (0x400 + direction_and_mode q) r.msr) r)
+noted (EntryRefused t a e) q r = record r { msr = with_bits 0x40c (0x400 + direction_and_mode q) r.msr; bear = q.address }
 
 -- a refused bus transfer sets CE (bit 9), and BEAR to the address served
 abbrev pub bus_error_noted : ℕ → Registers → Registers
-bus_error_noted address r = with_bear address (with_msr (with_bits 0x200 0x200 r.msr) r)
+bus_error_noted address r = record r { msr = with_bits 0x200 0x200 r.msr; bear = address }

@@ -1,5 +1,5 @@
 -- Kept translations: how one is found, and what a call can do with them.
-use Rattle.std.specs.Prelude.{◌≡◌, ℕ, suc, Bool, true, cond, ◌&&◌, ◌||◌, List, [], ◌∷◌, replicate, Some, None, Option, ◌==◌, slice_index_or, slice_set}
+use Rattle.std.specs.Prelude.{◌≡◌, ℕ, suc, Bool, true, ◌&&◌, ◌||◌, List, [], ◌∷◌, map, replicate, Some, None, Option, if◌then◌else◌, ◌==◌, slice_index_or, slice_set}
 use Rattle.model.specs.declared.registers.Registers.{Registers}
 use Rattle.model.specs.declared.translation.Tag.{Tag}
 use Rattle.model.specs.declared.translation.Translation.{Translation}
@@ -12,7 +12,7 @@ tag_of r space page = record { space = space; page = page }
 
 -- the address of the first table that a tag is walked from
 abbrev pub base_of : Registers → Tag → ℕ
-base_of r t = cond (t.space == 0) r.ptb0 r.ptb1
+base_of r t = if t.space == 0 then r.ptb0 else r.ptb1
 
 abbrev pub same_tag : Tag → Tag → Bool
 same_tag t u = t.space == u.space && t.page == u.page
@@ -29,7 +29,7 @@ Holds xs i t = slice_index_or xs i None ≡ Some t
 abbrev pub find_from : ℕ → Tag → Slots → Option Hit
 find_from i tag [] = None
 find_from i tag (None ∷ xs) = find_from (suc i) tag xs
-find_from i tag (Some t ∷ xs) = cond (same_tag t.tag tag) (Some (record { slot = i; translation = t })) (find_from (suc i) tag xs)
+find_from i tag (Some t ∷ xs) = if same_tag t.tag tag then Some (record { slot = i; translation = t }) else find_from (suc i) tag xs
 
 abbrev pub find : Tag → Slots → Option Hit
 find tag xs = find_from 0 tag xs
@@ -52,11 +52,10 @@ each t = true
 
 abbrev pub dropped : Which → Option Translation → Option Translation
 dropped which None = None
-dropped which (Some t) = cond (which t) None (Some t)
+dropped which (Some t) = if which t then None else Some t
 
 abbrev pub without : Which → Slots → Slots
-without which [] = []
-without which (x ∷ xs) = dropped which x ∷ without which xs
+without which xs = map (dropped which) xs
 
 -- a slot filled, whatever it held
 abbrev pub filled : ℕ → Translation → Slots → Slots
@@ -83,5 +82,5 @@ pub data TlbAction : Type 0 where
 abbrev pub acted : TlbAction → Tlb → Tlb
 acted rest k = k
 acted (hit h) k = k
-acted (drop which) k = record { slots = without which k.slots; next = k.next }
+acted (drop which) k = record k { slots = without which k.slots }
 acted (fill i t) k = record { slots = filled i t (without (of_tag t.tag) k.slots); next = next_after k.next }

@@ -14,12 +14,22 @@ pub struct Request {
 // The name of a table entry: the space and the page that lead to it, and the level of its table.
 #[derive(Clone, Copy, PartialEq, Eq, Debug)]
 pub struct EntryName {
+    // 0 or 1: a number, as in a `Tag`.
     pub space: u8,
     pub level: TableLevel,
     pub page: u32,
 }
 
-// One call, with its operands as numbers; any number is accepted.
+// What an edit is asked to do: the name of an entry in numbers, and its new value. Any number is accepted.
+#[derive(Clone, Copy, PartialEq, Eq, Debug)]
+pub struct EditOperands {
+    pub space: u8,
+    pub level: u8,
+    pub page: u32,
+    pub value: u32,
+}
+
+// One call. Its operands are numbers, a mode, a kind and a level too, since calls are told numbers; any is accepted.
 #[derive(Clone, Copy, PartialEq, Eq, Debug)]
 pub enum Call {
     Reset,
@@ -49,12 +59,7 @@ pub enum Call {
         mask: u8,
         value: u32,
     },
-    Edit {
-        space: u8,
-        level: u8,
-        page: u32,
-        value: u32,
-    },
+    Edit(EditOperands),
     // The flush of a token, known by the address that it carries.
     Flush {
         address: u32,
@@ -65,16 +70,12 @@ pub enum Call {
 #[derive(Clone, Copy, PartialEq, Eq, Debug)]
 pub enum Command {
     One(Call),
-    EditThenFlush {
-        space: u8,
-        level: u8,
-        page: u32,
-        value: u32,
-    },
+    EditThenFlush(EditOperands),
 }
 
+// What a call that is not refused answers.
 #[derive(Clone, Copy, PartialEq, Eq, Debug)]
-pub enum Answer {
+pub enum Reply {
     Done,
     Value(u32),
     Translated { physical: u32, inhibit: bool },
@@ -85,5 +86,6 @@ pub enum Answer {
     Flushed,
     // No token of that address was open.
     NotOpen,
-    Refused(Refusal),
 }
+
+pub type Answer = Result<Reply, Refusal>;

@@ -3,7 +3,7 @@
 // What a kept translation is found by.
 #[derive(Clone, Copy, PartialEq, Eq, Debug)]
 pub struct Tag {
-    // 0 or 1.
+    // 0 or 1: a number, since a kept translation holds no enum, so that a slot can be lent to C.
     pub space: u8,
     pub page: u32,
 }
