@@ -1,4 +1,5 @@
-// What a walk asks of an entry, and the two marks that it makes.
+// What a walk asks of an entry, and the two marks that it makes. The level stands beside an entry only where the two
+// tables differ or may come to, so the two are no struct.
 ghost use Rattle.std.specs.Prelude.{◌≡◌};
 ghost use Rattle.entry.specs.Bits.{Marks};
 ghost use Rattle.entry.specs.NS32382.{ns32382};

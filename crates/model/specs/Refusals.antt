@@ -1,6 +1,7 @@
 -- Refusals in numbers, and what an abort or a bus error notes in the registers.
 use Rattle.std.specs.Prelude.{ℕ, ◌+◌, ◌-◌, Bool, true, false, if◌then◌else◌, bit_and, bit_or}
 use Rattle.entry.specs.Access.{is_user}
+use Rattle.entry.specs.TableLevel.{level_number}
 use Rattle.entry.specs.declared.TableLevel.{TableLevel}
 use Rattle.entry.specs.declared.TableLevel.TheVariants.{First, Second}
 use Rattle.entry.specs.declared.access.AccessKind.{AccessKind}
@@ -14,10 +15,6 @@ use Rattle.model.specs.declared.refusal.Refusal.TheVariants.{UnknownRegister, Wr
 use Rattle.model.specs.declared.refusal.Report.{Report}
 use Rattle.model.specs.declared.registers.Registers.{Registers}
 
-abbrev pub number_of_level : TableLevel → ℕ
-number_of_level First = 1
-number_of_level Second = 2
-
 -- a refusal that tells its number and nothing else
 abbrev pub number_only : ℕ → Report
 number_only n = record { number = n; level = 0; address = 0; reason = 0 }
@@ -29,9 +26,9 @@ invalid_number Second = 12
 
 abbrev pub abort_report : Abort → Report
 abort_report Breakpoint = number_only 10
-abort_report (InvalidEntry t a) = record { number = invalid_number t; level = number_of_level t; address = a; reason = 0 }
+abort_report (InvalidEntry t a) = record { number = invalid_number t; level = level_number t; address = a; reason = 0 }
 abort_report Protection = number_only 13
-abort_report (EntryRefused t a e) = record { number = 14; level = number_of_level t; address = a; reason = reason_number e }
+abort_report (EntryRefused t a e) = record { number = 14; level = level_number t; address = a; reason = reason_number e }
 
 abbrev pub report_of : Refusal → Report
 report_of UnknownRegister = number_only 4

@@ -1,11 +1,13 @@
 // Why a call did not do what it was asked.
 ghost use Rattle.std.specs.Prelude.{◌≡◌};
-ghost use Rattle.model.specs.Refusals.{abort_report, number_of_level, number_only, report_of};
+ghost use Rattle.entry.specs.TableLevel.{level_number};
+ghost use Rattle.model.specs.Refusals.{abort_report, number_only, report_of};
 
 use entry::TableLevel;
 use physical::MemoryError;
 
-// An access or a validation that could not be finished. Aborts are noted in the registers.
+// An access or a validation that could not be finished. Aborts are noted in the registers. A level and an address stand
+// together in two cases alone; as a struct they would be one more name in each pattern.
 #[derive(Clone, Copy, PartialEq, Eq, Debug)]
 pub enum Abort {
     Breakpoint,
@@ -40,7 +42,7 @@ pub enum Refusal {
     EntryNotWritten,
 }
 
-// A refusal in numbers: zero where there is nothing to tell.
+// A refusal in numbers, since calls are told numbers and tell them: zero where there is nothing to tell.
 #[derive(Clone, Copy, PartialEq, Eq, Debug)]
 pub struct Report {
     pub number: u8,
@@ -112,7 +114,7 @@ fn number_only(number: u8) -> Report
 
 // A report about the table entry of that level, at that address.
 fn of_entry(number: u8, level: TableLevel, address: u32, reason: u8) -> Report
-    ensures { result ≡ record { number = number; level = number_of_level level; address = address; reason = reason } }
+    ensures { result ≡ record { number = number; level = level_number level; address = address; reason = reason } }
 {
     Report {
         number,

@@ -52,6 +52,7 @@ pub trait ReadableStore {
 
 // A readable store that can be written where it is present and writable. Presence and writability never change.
 pub trait Memory: ReadableStore {
+    // Apart from `values`, since values change and this does not: a state of the unit holds those alone.
     ghost writable: { Self → Writable };
 
     // The slices it was lent, for memories over bytes of the caller. An implementation that has none leaves this out.
