@@ -1,5 +1,5 @@
 -- The layout meets the laws that a walk rests on.
-use Rattle.std.proofs.Common.{◌≡◌, ℕ, ◌^◌, eqb, refl, ap, arith, lit≤}
+use Rattle.std.proofs.Common.{◌≡◌, ℕ, ◌^◌, ◌<◌, eqb, refl, ap, arith, lit≤}
 use lib.Bits.{bit_or}
 use Rattle.std.proofs.lemmas.Bool.Decides.{nat_tests}
 use Rattle.entry.specs.Bits.{bit, flag}
@@ -44,5 +44,9 @@ lawful = record {
   physical_small = λ f a. omega arith;
 }
 
+-- two frames that put an offset into the same place are one
+same_frame : (x y o : ℕ) → x < 1048576 → y < 1048576 → ns32382.physical x o ≡ ns32382.physical y o → x ≡ y
+same_frame x y o small small' h = omega arith
+
 pub distinct_frames : DistinctFrames ns32382
-distinct_frames e f a same = grind arith
+distinct_frames e f a same = same_frame (ns32382.frame e) (ns32382.frame f) (ns32382.offset a) (omega arith) (omega arith) same
