@@ -29,10 +29,10 @@ impl<S> Shift<S> {
     fn inner_address(&self, address: u32) -> Result<u32, MemoryError>
         ensures { MatchResult result (λ a. (self.now.distance ≤ dword address) × (dword a ≡ dword address - self.now.distance)) (λ e. (dword address < self.now.distance) × (e ≡ Absent)) }
     {
-        match dword_number(address).checked_sub(self.distance) {
-            Some(number) => Ok(number * 4),
-            None => Err(MemoryError::Absent),
-        }
+        let number = dword_number(address)
+            .checked_sub(self.distance)
+            .ok_or(MemoryError::Absent)?;
+        Ok(number * 4)
     }
 }
 
