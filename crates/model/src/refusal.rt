@@ -43,7 +43,7 @@ pub enum Refusal {
 }
 
 // A refusal in numbers, since calls are told numbers and tell them: zero where there is nothing to tell.
-#[derive(Clone, Copy, PartialEq, Eq, Debug)]
+#[derive(Clone, Copy, PartialEq, Eq, Debug, Default)]
 pub struct Report {
     pub number: u8,
     // The level of the table whose entry is concerned.
@@ -89,10 +89,9 @@ impl From<Refusal> for Report {
             Refusal::MisalignedTransfer => number_only(7),
             Refusal::BadMask => number_only(8),
             Refusal::BusError { address, reason } => Report {
-                number: 9,
-                level: 0,
                 address,
                 reason: u8::from(reason),
+                ..number_only(9)
             },
             Refusal::Aborted(abort) => Report::from(abort),
             Refusal::BadEntryName => number_only(15),
@@ -106,9 +105,7 @@ fn number_only(number: u8) -> Report
 {
     Report {
         number,
-        level: 0,
-        address: 0,
-        reason: 0,
+        ..Report::default()
     }
 }
 
