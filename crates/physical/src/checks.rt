@@ -36,7 +36,8 @@ impl From<AssemblyError> for u8 {
     }
 }
 
-// Whether that many bytes can be covered from the start on.
+// Whether that many bytes can be covered from the start on. It takes the length alone: whoever assembles a memory asks
+// before there are bytes.
 pub fn check_range(start: u32, length: usize) -> Result<(), AssemblyError>
     ensures { check_number result ≡ range_rule start length }
 {
