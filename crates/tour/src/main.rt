@@ -20,7 +20,8 @@ use physical::ram::Ram;
 use physical::rom::Rom;
 use physical::shift::Shift;
 use physical::writes::{Write, write_all};
-use physical::{Memory, ReadableStore};
+use physical::{Memory, MemoryError, ReadableStore};
+use std::fmt;
 
 // The RAM below 32,768, nothing up to 65,536, and the ROM from there on.
 type Machine<'a> = Pair<Ram<'a>, Shift<Rom<'a>>>;
@@ -190,13 +191,20 @@ fn find(rt: &HostRuntime, memory: &Machine<'_>) -> anyhow::Result<u32> {
     Ok(found.physical)
 }
 
+// A refusal of the memory, as the tour tells it.
+#[derive(Clone, Copy)]
+struct Refused(MemoryError);
+
+impl fmt::Display for Refused {
+    fn fmt<W: fmt::Write>(&self, f: &mut fmt::Formatter<W>) -> fmt::Result {
+        write!(f, "refused, reason {} ({})", u8::from(self.0), self.0)
+    }
+}
+
 fn show_read(rt: &HostRuntime, memory: &Machine<'_>, address: u32) -> anyhow::Result<()> {
     match memory.read(address) {
         Ok(value) => println!(rt; "   read at {address:#010x}: {value:#010x}, in decimal {value}")?,
-        Err(e) => {
-            let reason = u8::from(e);
-            println!(rt; "   read at {address:#010x}: refused, reason {reason} ({e})")?;
-        }
+        Err(e) => println!(rt; "   read at {address:#010x}: {}", Refused(e))?,
     }
     Ok(())
 }
@@ -205,12 +213,10 @@ fn show_write(rt: &HostRuntime, memory: &mut Machine<'_>, write: &Write) -> anyh
     let Write { address, value } = *write;
     match memory.write(address, value) {
         Ok(()) => println!(rt; "   write of {value:#010x} at {address:#010x}: done")?,
-        Err(e) => {
-            let reason = u8::from(e);
-            println!(rt;
-                "   write of {value:#010x} at {address:#010x}: refused, reason {reason} ({e})"
-            )?;
-        }
+        Err(e) => println!(rt;
+            "   write of {value:#010x} at {address:#010x}: {}",
+            Refused(e)
+        )?,
     }
     Ok(())
 }
