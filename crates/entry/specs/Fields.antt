@@ -1,5 +1,5 @@
 -- A page table entry as 32 bits, and as its eight fields.
-use Rattle.std.specs.Prelude.{◌≡◌, ℕ, ◌+◌, ◌*◌, ◌^◌, ◌<◌, Bool, true, if◌then◌else◌, ◌&&◌, Some, None, Option, nat_lt}
+use Rattle.std.specs.Prelude.{◌≡◌, ℕ, ◌+◌, ◌*◌, ◌^◌, ◌<◌, Bool, IsTrue, if◌then◌else◌, ◌&&◌, Some, None, Option, nat_lt}
 use Rattle.entry.specs.Bits.{as_bit, field, flag}
 use Rattle.entry.specs.declared.EntryFields.{EntryFields}
 use Rattle.entry.specs.declared.FieldTooWide.{FieldTooWide}
@@ -38,4 +38,4 @@ encoded f = if fit f then Some (entry_of f) else None
 -- taking apart and putting together lose nothing, either way round
 pub record RoundTrips : Type 0 where
   pub same_bits : (w : ℕ) → w < 2 ^ 32 → encoded (fields_of w) ≡ Some w
-  pub same_fields : (f : EntryFields) → fit f ≡ true → (encoded f ≡ Some (entry_of f)) × (entry_of f < 2 ^ 32) × (fields_of (entry_of f) ≡ f)
+  pub same_fields : (f : EntryFields) → IsTrue (fit f) → (encoded f ≡ Some (entry_of f)) × (entry_of f < 2 ^ 32) × (fields_of (entry_of f) ≡ f)

@@ -1,6 +1,6 @@
 -- What a page table walk asks of table entries and of addresses: a record of operations, and the laws that they
 -- owe. A walk, and all that is proved of it, rests on what is asked here alone, so that another layout can be given.
-use Rattle.std.specs.Prelude.{◌≡◌, ℕ, ◌+◌, ◌*◌, ◌^◌, ◌<◌, ◌≤◌, Bool, true, false}
+use Rattle.std.specs.Prelude.{◌≡◌, ℕ, ◌+◌, ◌*◌, ◌^◌, ◌<◌, ◌≤◌, Bool, IsTrue, IsFalse}
 use Rattle.entry.specs.declared.TableLevel.{TableLevel}
 use Rattle.entry.specs.declared.TableLevel.TheVariants.{First, Second}
 
@@ -35,25 +35,25 @@ pub record Layout : Type 0 where
 
 pub record Lawful (l : Layout) : Type 0 where
   -- marking referenced sets that flag, and leaves all else that a walk asks
-  pub referenced_set : (t : TableLevel) (e : ℕ) → l.referenced (l.mark_referenced t e) ≡ true
-  pub referenced_stays : (t : TableLevel) (e : ℕ) → l.referenced e ≡ true → l.mark_referenced t e ≡ e
+  pub referenced_set : (t : TableLevel) (e : ℕ) → IsTrue (l.referenced (l.mark_referenced t e))
+  pub referenced_stays : (t : TableLevel) (e : ℕ) → IsTrue (l.referenced e) → l.mark_referenced t e ≡ e
   pub referenced_valid : (t : TableLevel) (e : ℕ) → l.valid (l.mark_referenced t e) ≡ l.valid e
   pub referenced_protection : (t : TableLevel) (e : ℕ) → l.protection (l.mark_referenced t e) ≡ l.protection e
   pub referenced_frame : (t : TableLevel) (e : ℕ) → l.frame (l.mark_referenced t e) ≡ l.frame e
   pub referenced_modified : (t u : TableLevel) (e : ℕ) → l.modified u (l.mark_referenced t e) ≡ l.modified u e
   pub referenced_inhibit : (t u : TableLevel) (e : ℕ) → l.inhibit u (l.mark_referenced t e) ≡ l.inhibit u e
   -- marking modified sets that flag in the second table, and does nothing in the first
-  pub modified_set : (e : ℕ) → l.modified Second (l.mark_modified Second e) ≡ true
+  pub modified_set : (e : ℕ) → IsTrue (l.modified Second (l.mark_modified Second e))
   pub modified_first : (e : ℕ) → l.mark_modified First e ≡ e
-  pub modified_stays : (t : TableLevel) (e : ℕ) → l.modified t e ≡ true → l.mark_modified t e ≡ e
+  pub modified_stays : (t : TableLevel) (e : ℕ) → IsTrue (l.modified t e) → l.mark_modified t e ≡ e
   pub modified_valid : (t : TableLevel) (e : ℕ) → l.valid (l.mark_modified t e) ≡ l.valid e
   pub modified_protection : (t : TableLevel) (e : ℕ) → l.protection (l.mark_modified t e) ≡ l.protection e
   pub modified_frame : (t : TableLevel) (e : ℕ) → l.frame (l.mark_modified t e) ≡ l.frame e
   pub modified_referenced : (t : TableLevel) (e : ℕ) → l.referenced (l.mark_modified t e) ≡ l.referenced e
   pub modified_inhibit : (t u : TableLevel) (e : ℕ) → l.inhibit u (l.mark_modified t e) ≡ l.inhibit u e
   -- the first table has neither of the two
-  pub first_modified : (e : ℕ) → l.modified First e ≡ false
-  pub first_inhibit : (e : ℕ) → l.inhibit First e ≡ false
+  pub first_modified : (e : ℕ) → IsFalse (l.modified First e)
+  pub first_inhibit : (e : ℕ) → IsFalse (l.inhibit First e)
   -- protection levels are 0 to 3
   pub protection_small : (e : ℕ) → l.protection e ≤ 3
   -- an address is its page number and its offset; each page number below the limit has an address of 32 bits

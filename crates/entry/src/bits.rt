@@ -1,4 +1,5 @@
-// Bits and fields of a double-word, and where those of a table entry lie.
+// Bits and fields of a double-word, and where those of a table entry lie. A bit is read and placed as a flag, a field as a
+// number that can be too wide.
 ghost use Rattle.std.specs.Prelude.{◌≡◌, ◌+◌, ◌*◌, ◌^◌, ◌<◌, ◌≤◌, OkIff, bit_or};
 ghost use Rattle.entry.specs.Bits.{Marks, as_bit, field, flag};
 

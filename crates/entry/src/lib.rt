@@ -59,7 +59,7 @@ pub struct EntryFields {
 }
 
 // A field that is wider than its place in an entry.
-#[derive(Clone, Copy, PartialEq, Eq, Hash, Debug, Error)]
+#[derive(Clone, Copy, PartialEq, Eq, Debug, Error)]
 #[error("a field is too wide")]
 pub struct FieldTooWide;
 

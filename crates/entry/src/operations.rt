@@ -1,5 +1,5 @@
-// What a walk asks of an entry, and the two marks that it makes. The level stands beside an entry only where the two
-// tables differ or may come to, so the two are no struct.
+// What a walk asks of an entry, and the two marks that it makes: one function for each operation of the layout. The level
+// stands beside an entry only where the two tables differ or may come to, so the two are no struct.
 ghost use Rattle.std.specs.Prelude.{◌≡◌};
 ghost use Rattle.entry.specs.Bits.{Marks};
 ghost use Rattle.entry.specs.NS32382.{ns32382};

@@ -1,5 +1,5 @@
 -- What a look-up by reading both entries finds. It asks only that they are there and valid, and marks nothing.
-use Rattle.std.specs.Prelude.{ℕ, cond, Some, None, Ok, Err, Option, Result}
+use Rattle.std.specs.Prelude.{ℕ, if◌then◌else◌, Some, None, Ok, Err, Option, Result}
 use Rattle.physical.specs.Stores.{Values, dword}
 use Rattle.entry.specs.NS32382.{ns32382}
 use Rattle.lookup.specs.declared.Step.{Step}
@@ -10,7 +10,7 @@ use Rattle.lookup.specs.declared.Miss.TheVariants.{Absent, Invalid}
 -- the entry at an address, if it is there and valid
 abbrev pub step_of : Option ℕ → ℕ → Result Step Miss
 step_of None a = Err (Absent a)
-step_of (Some e) a = cond (ns32382.valid e) (Ok (record { address = a; entry = e })) (Err (Invalid a))
+step_of (Some e) a = if ns32382.valid e then Ok (record { address = a; entry = e }) else Err (Invalid a)
 
 -- the second entry, once the first is found, and the physical address
 abbrev pub found_of : ℕ → Step → Result Step Miss → Result Found Miss

@@ -48,7 +48,7 @@ abbrev pub answer_number : Answer → ℕ
 answer_number (Ok x) = 0
 answer_number (Err x) = (report_of x).number
 
--- the same of what a call does
+-- what a call does, its answer put among those of all calls
 abbrev pub answering : {A : Type 0} → (A → Answer) → Effect A → Effect Answer
 answering f e = record { outcome = answered (f e.outcome.answer) e.outcome.registers e.outcome.values; action = e.action }
 

@@ -14,13 +14,13 @@ use Rattle.model.specs.Walk.{found}
 abbrev pub used_entry : Layout → ℕ → Values → Option ℕ
 used_entry l a m = option_and_then (λ e. if l.valid e && l.referenced e then Some e else None) (m (dword a))
 
--- what a walk of level 0 finds now in the second table; the first entry, at a, is e
+-- what a walk of level 0 finds now in the second table, if it need not mark anything referenced; the first entry, at a, is e
 abbrev pub found_second : Layout → Tag → ℕ → Values → ℕ → Option Translation
 found_second l tag a m e =
     let b = l.second_entry (l.frame e) tag.page in
     option_map (found l tag a e b) (used_entry l b m)
 
--- what it finds from the first, if it need not mark anything referenced
+-- what it finds from the first table on, if it need not mark anything there either
 abbrev pub found_now : Layout → Tag → ℕ → Values → Option Translation
 found_now l tag base m =
     let a = l.first_entry base tag.page in

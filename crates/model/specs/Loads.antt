@@ -32,12 +32,12 @@ abbrev pub load : Layout → ℕ → ℕ → State → Effect (Result (Unit {0})
 load l code v s = load_named l (register_of code) v s
 
 -- what a store answers
-abbrev pub named_answer : Option Register → Registers → Result ℕ Refusal
-named_answer None r = Err UnknownRegister
-named_answer (Some x) r = ok_or (held x r) WriteOnlyRegister
+abbrev pub store_named : Option Register → Registers → Result ℕ Refusal
+store_named None r = Err UnknownRegister
+store_named (Some x) r = ok_or (held x r) WriteOnlyRegister
 
 abbrev pub store_answer : ℕ → Registers → Result ℕ Refusal
-store_answer code r = named_answer (register_of code) r
+store_answer code r = store_named (register_of code) r
 
 abbrev pub store : ℕ → State → Effect (Result ℕ Refusal)
 store code s = only_answers (store_answer code s.registers) s

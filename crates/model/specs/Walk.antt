@@ -12,7 +12,7 @@ use Rattle.model.specs.declared.refusal.Abort.TheVariants.{InvalidEntry, Protect
 use Rattle.model.specs.declared.translation.Tag.{Tag}
 use Rattle.model.specs.declared.translation.Translation.{Translation}
 
--- the entry at an address, for an access of that level: it is read, then V is asked, then PL
+-- the entry at an address, once it is read, for an access of that level: V is asked, then PL
 abbrev pub passed : Layout → TableLevel → ℕ → ℕ → Option ℕ → Result ℕ Abort
 passed l t level a None = Err (EntryRefused t a Absent)
 passed l t level a (Some e) =

@@ -88,4 +88,5 @@ pub enum Reply {
     NotOpen,
 }
 
+// What a call answers: a reply, or why it was refused.
 pub type Answer = Result<Reply, Refusal>;

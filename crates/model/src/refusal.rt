@@ -1,4 +1,4 @@
-// Why a call did not do what it was asked.
+// Refusals of calls, and the numbers that they are told in.
 ghost use Rattle.std.specs.Prelude.{◌≡◌};
 ghost use Rattle.entry.specs.TableLevel.{level_number};
 ghost use Rattle.model.specs.Refusals.{abort_report, number_only, report_of};
@@ -25,6 +25,7 @@ pub enum Abort {
     },
 }
 
+// Why a call did not do what it was asked. It has no text, nor has an abort, since calls tell refusals in numbers.
 #[derive(Clone, Copy, PartialEq, Eq, Debug)]
 pub enum Refusal {
     UnknownRegister,

@@ -1,5 +1,5 @@
 -- Lists of writes: what they leave, and the law of what a read then answers.
-use Rattle.std.specs.Prelude.{◌≡◌, ℕ, ◌+◌, Bool, true, false, List, [], ◌∷◌, ◌++◌, is_some, is_ok, Some, Ok, Err, Option, Result, ◌≢◌, if◌then◌else◌}
+use Rattle.std.specs.Prelude.{◌≡◌, ℕ, ◌+◌, Bool, List, IsTrue, IsFalse, [], ◌∷◌, ◌++◌, is_some, is_ok, Some, Ok, Err, Option, Result, ◌≢◌, if◌then◌else◌}
 use Rattle.physical.specs.Stores.{Values, Writable, dword, read_answer, reason_number, write_answer, written}
 use Rattle.physical.specs.declared.MemoryError.{MemoryError}
 use Rattle.physical.specs.declared.writes.Write.{Write}
@@ -24,7 +24,7 @@ accepted_count m w (x ∷ xs) = (if accepted m w x then 1 else 0) + accepted_cou
 
 -- of the writes in xs, made once those in `before` were made, none to the double-word q is accepted
 abbrev pub NoneAccepted : Values → Writable → List Write → List Write → ℕ → Type 0
-NoneAccepted m w before xs q = (us : List Write) (x : Write) (vs : List Write) → xs ≡ us ++ (x ∷ vs) → dword x.address ≡ q → accepted (after_writes m w (before ++ us)) w x ≡ false
+NoneAccepted m w before xs q = (us : List Write) (x : Write) (vs : List Write) → xs ≡ us ++ (x ∷ vs) → dword x.address ≡ q → IsFalse (accepted (after_writes m w (before ++ us)) w x)
 
 -- a write of the list to the double-word q that is accepted, and the last one that is
 pub record LastAccepted (m : Values) (w : Writable) (ws : List Write) (q : ℕ) : Type 0 where
@@ -33,7 +33,7 @@ pub record LastAccepted (m : Values) (w : Writable) (ws : List Write) (q : ℕ) 
   pub later : List Write
   pub place : ws ≡ before ++ (last ∷ later)
   pub target : dword last.address ≡ q
-  pub accepts : accepted (after_writes m w before) w last ≡ true
+  pub accepts : IsTrue (accepted (after_writes m w before) w last)
   pub none_later : NoneAccepted m w (before ++ (last ∷ [])) later q
 
 -- what may stand in the double-word q after the writes of the list:

@@ -16,23 +16,19 @@ const ADDRESS_SPACE: u64 = 1 << 32;
 #[derive(Clone, Copy, PartialEq, Eq, Debug, Error)]
 pub enum AssemblyError {
     #[error("the length is zero, no multiple of the granule, or above the longest")]
-    Length,
+    Length = 1,
     #[error("the start is no multiple of the granule, or the bytes would end above 2^32")]
-    Placement,
+    Placement = 2,
     #[error("the split or the shift is no multiple of the granule")]
-    Boundary,
+    Boundary = 3,
 }
 
-// The number of the refusal: 1 length, 2 placement, 3 boundary.
+// The number of the refusal.
 impl From<AssemblyError> for u8 {
     ghost from_gives = { λ e n. n ≡ assembly_number e };
 
     fn from(error: AssemblyError) -> u8 {
-        match error {
-            AssemblyError::Length => 1,
-            AssemblyError::Placement => 2,
-            AssemblyError::Boundary => 3,
-        }
+        error as u8
     }
 }
 
@@ -50,7 +46,7 @@ pub fn check_range(start: u32, length: usize) -> Result<(), AssemblyError>
     Ok(())
 }
 
-// The start of bytes, that many, if they can be covered from it on.
+// The start, if that many bytes can be covered from it on.
 pub(crate) fn checked_start(start: u32, length: usize) -> Option<u32>
     ensures { result ≡ start_checked start length }
 {

@@ -21,21 +21,18 @@ pub mod writes;
 pub enum MemoryError {
     // There is no double-word at the address.
     #[error("absent")]
-    Absent,
+    Absent = 1,
     // There is one, and it cannot be written.
     #[error("read-only")]
-    ReadOnly,
+    ReadOnly = 2,
 }
 
-// The number of the reason: 1 absent, 2 read-only.
+// The number of the reason.
 impl From<MemoryError> for u8 {
     ghost from_gives = { λ e n. n ≡ reason_number e };
 
     fn from(error: MemoryError) -> u8 {
-        match error {
-            MemoryError::Absent => 1,
-            MemoryError::ReadOnly => 2,
-        }
+        error as u8
     }
 }
 
@@ -52,13 +49,14 @@ pub trait ReadableStore {
 
 // A readable store that can be written where it is present and writable. Presence and writability never change.
 pub trait Memory: ReadableStore {
-    // Apart from `values`, since values change and this does not: a state of the unit holds those alone.
+    // Apart from `values`, since values change and this does not: a state of the unit holds the values alone.
     ghost writable: { Self → Writable };
 
     // The slices it was lent, for memories over bytes of the caller. An implementation that has none leaves this out.
     ghost loans: { Self → Loans } = { λ _. none };
 
-    // `keeps` and `lends` relate two states, which no type can carry: what calls this over any memory says them again.
+    // The address and the value are two numbers, as a processor has them. `keeps` and `lends` relate two states, which no
+    // type can carry: what calls this over any memory says them again.
     fn write(&mut self, address: u32, value: u32) -> WriteOutcome
         ensures answers { result ≡ write_answer (Self.ReadableStore.values self.old (dword address)) (writable self.old (dword address)) }
         ensures leaves { Self.ReadableStore.values self.new ≡ written (Self.ReadableStore.values self.old) (writable self.old) (dword address) value }

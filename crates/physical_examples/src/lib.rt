@@ -2,7 +2,7 @@
 
 #![tactic(auto)]
 
-ghost use Rattle.std.specs.Prelude.{◌≡◌, true, false, length, None as Nothing, Ok, Err, ◌==◌};
+ghost use Rattle.std.specs.Prelude.{◌≡◌, true, false, IsFalse, length, None as Nothing, Ok, Err, ◌==◌};
 ghost use Rattle.physical.specs.Bytes.{laid_checked};
 ghost use Rattle.physical.specs.Checks.{range_rule};
 ghost use Rattle.physical.specs.Composed.{paired, shifted};
@@ -49,14 +49,14 @@ fn machine<'a>(rom: &'a [u8], ram: &'a mut [u8]) -> Machine<'a>
 fn exercise<M: Memory>(memory: &mut M) -> Seen
     ensures { result ≡ exercised (M.ReadableStore.values memory.old) (M.Memory.writable memory.old) }
 {
-    let rom_write = (*memory).write(0x0ffc, 7);
-    let ram_write = (*memory).write(0x2004, 0x1122_3344);
+    let rom_write = memory.write(0x0ffc, 7);
+    let ram_write = memory.write(0x2004, 0x1122_3344);
     Seen {
-        rom: (*memory).read(0x0ffc),
+        rom: memory.read(0x0ffc),
         rom_write,
         ram_write,
-        ram: (*memory).read(0x2006),
-        beyond: (*memory).read(0x1000),
+        ram: memory.read(0x2006),
+        beyond: memory.read(0x1000),
     }
 }
 
@@ -84,7 +84,7 @@ pub fn poke(bytes: &mut [u8], start: u32, address: u32, value: u32) -> WriteOutc
 pub fn poke_all(bytes: &mut [u8], start: u32, writes: &[Write]) -> usize
     ensures count { result ≡ accepted_count (laid_checked start bytes.old) everywhere writes.now }
     ensures values { laid_checked start bytes.new ≡ after_writes (laid_checked start bytes.old) everywhere writes.now }
-    ensures left_alone { (range_rule start (length bytes.old) == 0) ≡ false → bytes.new ≡ bytes.old }
+    ensures left_alone { IsFalse (range_rule start (length bytes.old) == 0) → bytes.new ≡ bytes.old }
 {
     let mut ram = Ram::new(start, bytes);
     write_all(&mut ram, writes)
