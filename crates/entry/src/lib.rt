@@ -28,7 +28,7 @@ pub enum TableLevel {
     Second = 2,
 }
 
-// The level as a number.
+// The level as a number. Each enum that has numbers has its own, so there is no generic conversion.
 impl From<TableLevel> for u8 {
     ghost from_gives = { λ level n. n ≡ level_number level };
 

@@ -23,7 +23,7 @@ pub enum AssemblyError {
     Boundary = 3,
 }
 
-// The number of the refusal.
+// The number of the refusal. Each enum that has numbers has its own, so there is no generic conversion.
 impl From<AssemblyError> for u8 {
     ghost from_gives = { λ e n. n ≡ assembly_number e };
 

@@ -27,7 +27,7 @@ pub enum MemoryError {
     ReadOnly = 2,
 }
 
-// The number of the reason.
+// The number of the reason. Each enum that has numbers has its own, so there is no generic conversion.
 impl From<MemoryError> for u8 {
     ghost from_gives = { λ e n. n ≡ reason_number e };
 
