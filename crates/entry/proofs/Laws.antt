@@ -1,5 +1,5 @@
 -- The layout meets the laws that a walk rests on.
-use Rattle.std.proofs.Common.{◌≡◌, ℕ, ◌^◌, ◌<◌, eqb, refl, ap, arith, lit≤}
+use Rattle.std.proofs.Common.{◌≡◌, ℕ, ◌^◌, ◌<◌, ◌==◌, refl, ap, arith, lit≤}
 use lib.Bits.{bit_or}
 use Rattle.std.proofs.lemmas.Bool.Decides.{nat_tests}
 use Rattle.entry.specs.Bits.{bit, flag}
@@ -10,7 +10,7 @@ use Rattle.entry.proofs.Marking.{marks}
 
 -- a mark leaves the flag of another bit
 flag_beside : (j k : ℕ) → bit j (2 ^ k) ≡ 0 → (e : ℕ) → flag j (bit_or e (2 ^ k)) ≡ flag j e
-flag_beside j k none e = ap (λ x. eqb x 1) (beside j 1 e (2 ^ k) none)
+flag_beside j k none e = ap (λ x. x == 1) (beside j 1 e (2 ^ k) none)
 
 pub lawful : Lawful ns32382
 lawful = record {

@@ -1,6 +1,6 @@
 -- The layout of the NS32382: entries of 32 bits, virtual addresses of 32 bits, pages of 4,096 bytes.
 use Rattle.std.specs.Prelude.{◌≡◌, ℕ, ◌+◌, ◌-◌, ◌*◌, ◌/◌, ◌%◌, ◌^◌, ◌<◌, Bool, false, bit_or}
-use Rattle.entry.specs.Bits.{field}
+use Rattle.entry.specs.Bits.{field, flag}
 use Rattle.entry.specs.Fields.{fields_of}
 use Rattle.entry.specs.Layout.{Layout}
 use Rattle.entry.specs.declared.EntryFields.{EntryFields}
@@ -11,6 +11,11 @@ use Rattle.entry.specs.declared.TableLevel.TheVariants.{First, Second}
 abbrev pub second_only : (EntryFields → Bool) → TableLevel → ℕ → Bool
 second_only flag First e = false
 second_only flag Second e = flag (fields_of e)
+
+-- the same of a bit, by its number
+abbrev pub second_bit : ℕ → TableLevel → ℕ → Bool
+second_bit k First e = false
+second_bit k Second e = flag k e
 
 -- a mark that only the second table takes
 abbrev pub mark_second : ℕ → TableLevel → ℕ → ℕ

@@ -18,8 +18,8 @@ pub enum AccessKind {
     ReadModifyWrite,
 }
 
-// The level of an access, 0 to 3: a number, as levels are compared and the smaller of two is taken.
-// With the override set, a user's accesses count as the supervisor's.
+// The level of an access, 0 to 3. With the override set, a user's accesses count as the supervisor's. Levels are numbers
+// here and below: `permits` and `effective_protection` take any, and an entry's field can be put together too wide.
 pub fn access_level(mode: Mode, overridden: bool, kind: AccessKind) -> u8
     ensures { result ≡ access_level mode overridden kind }
 {

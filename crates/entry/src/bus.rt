@@ -12,7 +12,8 @@ pub fn merge(old: u32, new: u32, mask: u8) -> Option<u32>
     }
     let old = old.to_le_bytes();
     let new = new.to_le_bytes();
-    // byte i of the new double-word if the mask chooses it, else of the old one
+    // Byte i of the new double-word if the mask chooses it, else of the old one. The four are written out, since of
+    // `array::from_fn` the proof did not close.
     let byte = |i: usize| if mask >> i & 1 == 1 { new[i] } else { old[i] };
     Some(u32::from_le_bytes([byte(0), byte(1), byte(2), byte(3)]))
 }

@@ -3,7 +3,7 @@
 
 #![tactic(auto)]
 
-ghost use Rattle.std.specs.Prelude.{◌≡◌, IfOk, Some as Present};
+ghost use Rattle.std.specs.Prelude.{◌≡◌, IfOk, Some as Present, codes};
 ghost use Rattle.std.specs.Option.{ok_or};
 ghost use Rattle.entry.specs.Fields.{RoundTrips, encoded, fields_of, too_wide};
 ghost use Rattle.entry.specs.Figures.{Figures};
@@ -13,7 +13,8 @@ ghost use Rattle.entry.specs.TableLevel.{level_number};
 
 use bits::{FRAME, INHIBIT, MODIFIED, PROTECTION, REFERENCED, UNUSED, USER, VALID};
 use operations::{frame, inhibit, modified, protection, referenced, valid};
-use thiserror::Error;
+use std::error::Error;
+use std::fmt;
 
 pub mod access;
 mod bits;
@@ -42,7 +43,7 @@ impl From<TableLevel> for u8 {
 pub struct EntryFields {
     // V: the entry can be used.
     pub valid: bool,
-    // PL, two bits: up to which level accesses pass. A number, as levels are compared and the smaller is taken.
+    // PL, two bits: up to which level accesses pass. A number, since it can be too wide.
     pub protection: u8,
     // NU, three bits without a use.
     pub unused: u8,
@@ -59,9 +60,18 @@ pub struct EntryFields {
 }
 
 // A field that is wider than its place in an entry.
-#[derive(Clone, Copy, PartialEq, Eq, Debug, Error)]
-#[error("a field is too wide")]
+#[derive(Clone, Copy, PartialEq, Eq, Debug)]
 pub struct FieldTooWide;
+
+impl fmt::Display for FieldTooWide {
+    ghost output = { λ _. Present (codes "a field is too wide") };
+
+    fn fmt<W: fmt::Write>(&self, f: &mut fmt::Formatter<W>) -> fmt::Result {
+        f.write_str("a field is too wide")
+    }
+}
+
+impl Error for FieldTooWide {}
 
 // Takes an entry apart.
 impl From<u32> for EntryFields {

@@ -2,11 +2,11 @@
 // stands beside an entry only where the two tables differ or may come to, so the two are no struct.
 ghost use Rattle.std.specs.Prelude.{◌≡◌};
 ghost use Rattle.entry.specs.Bits.{Marks};
-ghost use Rattle.entry.specs.NS32382.{ns32382};
+ghost use Rattle.entry.specs.NS32382.{ns32382, second_bit};
 ghost use Rattle.entry.specs.declared.TableLevel.TheVariants.{Second as SecondLevel};
 
 use crate::TableLevel;
-use crate::bits::{FRAME, INHIBIT, MODIFIED, PROTECTION, REFERENCED, VALID};
+use crate::bits::{Bit, FRAME, INHIBIT, MODIFIED, PROTECTION, REFERENCED, VALID};
 
 pub fn valid(entry: u32) -> bool
     ensures { result ≡ ns32382.valid entry }
@@ -14,6 +14,7 @@ pub fn valid(entry: u32) -> bool
     VALID.is_set_in(entry)
 }
 
+// A number, as `permits` takes it.
 pub fn protection(entry: u32) -> u8
     ensures { result ≡ ns32382.protection entry }
 {
@@ -36,14 +37,21 @@ pub fn frame(entry: u32) -> u32
 pub fn modified(level: TableLevel, entry: u32) -> bool
     ensures { result ≡ ns32382.modified level entry }
 {
-    level == TableLevel::Second && MODIFIED.is_set_in(entry)
+    is_set_in_second(level, entry, MODIFIED)
 }
 
 // The first table ignores the bit.
 pub fn inhibit(level: TableLevel, entry: u32) -> bool
     ensures { result ≡ ns32382.inhibit level entry }
 {
-    level == TableLevel::Second && INHIBIT.is_set_in(entry)
+    is_set_in_second(level, entry, INHIBIT)
+}
+
+// Whether the bit is set in an entry of the second table.
+fn is_set_in_second(level: TableLevel, entry: u32, bit: Bit) -> bool
+    ensures { result ≡ second_bit bit.number level entry }
+{
+    level == TableLevel::Second && bit.is_set_in(entry)
 }
 
 // The entry marked referenced, in a table of either level.

@@ -1,5 +1,5 @@
 -- What a look-up by reading both entries finds. It asks only that they are there and valid, and marks nothing.
-use Rattle.std.specs.Prelude.{ℕ, if◌then◌else◌, Some, None, Ok, Err, Option, Result}
+use Rattle.std.specs.Prelude.{ℕ, if◌then◌else◌, List, codes, Some, None, Ok, Err, Option, Result}
 use Rattle.physical.specs.Stores.{Values, dword}
 use Rattle.entry.specs.NS32382.{ns32382}
 use Rattle.lookup.specs.declared.Step.{Step}
@@ -25,3 +25,8 @@ second_of m va (Err e) = Err e
 
 abbrev pub looked_up : Values → ℕ → ℕ → Result Found Miss
 looked_up m base va = let a = ns32382.first_entry base (ns32382.page va) in second_of m va (step_of (m (dword a)) a)
+
+-- the words for each reason why a look-up stops
+abbrev pub miss_text : Miss → List ℕ
+miss_text (Absent a) = codes "an entry is absent"
+miss_text (Invalid a) = codes "an entry is invalid"

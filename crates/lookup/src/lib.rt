@@ -2,16 +2,17 @@
 
 #![tactic(auto)]
 
-ghost use Rattle.std.specs.Prelude.{◌≡◌};
+ghost use Rattle.std.specs.Prelude.{◌≡◌, Some};
 ghost use Rattle.physical.specs.Stores.{dword};
-ghost use Rattle.lookup.specs.Lookup.{looked_up, step_of};
+ghost use Rattle.lookup.specs.Lookup.{looked_up, miss_text, step_of};
 
 use entry::geometry::{
     first_entry_address, offset, page_number, physical_address, second_entry_address,
 };
 use entry::operations::{frame, valid};
 use physical::ReadableStore;
-use thiserror::Error;
+use std::error::Error;
+use std::fmt;
 
 // An entry, and where it was read.
 #[derive(Clone, Copy, PartialEq, Eq, Debug)]
@@ -29,13 +30,24 @@ pub struct Found {
 }
 
 // Why a look-up stops, with the address of the entry.
-#[derive(Clone, Copy, PartialEq, Eq, Debug, Error)]
+#[derive(Clone, Copy, PartialEq, Eq, Debug)]
 pub enum Miss {
-    #[error("an entry is absent")]
     Absent(u32),
-    #[error("an entry is invalid")]
     Invalid(u32),
 }
+
+impl fmt::Display for Miss {
+    ghost output = { λ m. Some (miss_text m) };
+
+    fn fmt<W: fmt::Write>(&self, f: &mut fmt::Formatter<W>) -> fmt::Result {
+        f.write_str(match self {
+            Miss::Absent(_) => "an entry is absent",
+            Miss::Invalid(_) => "an entry is invalid",
+        })
+    }
+}
+
+impl Error for Miss {}
 
 fn entry_at<S: ReadableStore>(store: &S, address: u32) -> Result<Step, Miss>
     ensures { result ≡ step_of (S.ReadableStore.values store.now (dword address)) address }

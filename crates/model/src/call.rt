@@ -29,7 +29,8 @@ pub struct EditOperands {
     pub value: u32,
 }
 
-// One call. Its operands are numbers, a mode, a kind and a level too, since calls are told numbers; any is accepted.
+// One call. Its operands are numbers, a mode, a kind and a level too, since calls are told numbers; any is accepted. A bus
+// transfer's two addresses stand in two cases alone; as a struct they would be one more name in each pattern.
 #[derive(Clone, Copy, PartialEq, Eq, Debug)]
 pub enum Call {
     Reset,

@@ -13,7 +13,7 @@ pub struct Translation {
     pub tag: Tag,
     // The number of the frame that holds the page.
     pub frame: u32,
-    // The smaller protection level of the two entries: a number, as levels are compared.
+    // The smaller protection level of the two entries: a number, as `permits` takes it.
     pub protection: u8,
     // Whether the page is not to be cached.
     pub inhibit: bool,

@@ -1,5 +1,5 @@
 -- What the checks of lengths, starts and boundaries answer.
-use Rattle.std.specs.Prelude.{ℕ, ◌+◌, ◌-◌, ◌/◌, ◌%◌, Bool, not, ◌&&◌, Some, None, Ok, Err, Option, Result, ◌==◌, if◌then◌else◌, nat_le}
+use Rattle.std.specs.Prelude.{ℕ, ◌+◌, ◌-◌, ◌/◌, ◌%◌, Bool, List, codes, not, ◌&&◌, Some, None, Ok, Err, Option, Result, ◌==◌, if◌then◌else◌, nat_le}
 use Rattle.physical.specs.declared.checks.AssemblyError.{AssemblyError}
 use Rattle.physical.specs.declared.checks.AssemblyError.TheVariants.{Length, Placement, Boundary}
 
@@ -12,6 +12,12 @@ abbrev pub assembly_number : AssemblyError → ℕ
 assembly_number Length = 1
 assembly_number Placement = 2
 assembly_number Boundary = 3
+
+-- the words for each refusal
+abbrev pub assembly_error_text : AssemblyError → List ℕ
+assembly_error_text Length = codes "the length is zero, no multiple of the granule, or above the longest"
+assembly_error_text Placement = codes "the start is no multiple of the granule, or the bytes would end above 2^32"
+assembly_error_text Boundary = codes "the split or the shift is no multiple of the granule"
 
 -- the number that a check answers: 0 where it passes
 abbrev pub check_number : Result (Unit {0}) AssemblyError → ℕ

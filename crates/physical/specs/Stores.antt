@@ -1,5 +1,5 @@
 -- What a readable store and a memory hold, double-word by double-word.
-use Rattle.std.specs.Prelude.{ℕ, ◌/◌, ◌%◌, Bool, true, false, Some, None, Ok, Err, Option, Result, ◌==◌, if◌then◌else◌}
+use Rattle.std.specs.Prelude.{ℕ, ◌/◌, ◌%◌, Bool, true, false, List, codes, Some, None, Ok, Err, Option, Result, ◌==◌, if◌then◌else◌}
 use Rattle.physical.specs.declared.MemoryError.{MemoryError}
 use Rattle.physical.specs.declared.MemoryError.TheVariants.{Absent, ReadOnly}
 
@@ -19,6 +19,11 @@ Writable = ℕ → Bool
 abbrev pub reason_number : MemoryError → ℕ
 reason_number Absent = 1
 reason_number ReadOnly = 2
+
+-- the words for each reason
+abbrev pub memory_error_text : MemoryError → List ℕ
+memory_error_text Absent = codes "absent"
+memory_error_text ReadOnly = codes "read-only"
 
 -- what a read of a double-word answers
 abbrev pub read_answer : Option ℕ → Result ℕ MemoryError

@@ -1,8 +1,9 @@
 // The checks that whoever assembles a memory makes first. They alter nothing.
-ghost use Rattle.std.specs.Prelude.{◌≡◌};
-ghost use Rattle.physical.specs.Checks.{assembly_number, boundary_dword, boundary_rule, check_number, range_rule, start_checked};
+ghost use Rattle.std.specs.Prelude.{◌≡◌, Some, length};
+ghost use Rattle.physical.specs.Checks.{assembly_error_text, assembly_number, boundary_dword, boundary_rule, check_number, range_rule, start_checked};
 
-use thiserror::Error;
+use std::error::Error;
+use std::fmt;
 
 // Lengths, starts, splits and shifts are multiples of this many bytes.
 pub const GRANULE: u32 = 4;
@@ -13,15 +14,30 @@ pub const MAX_LENGTH: usize = 16_777_216;
 const ADDRESS_SPACE: u64 = 1 << 32;
 
 // Why a memory cannot be assembled as asked.
-#[derive(Clone, Copy, PartialEq, Eq, Debug, Error)]
+#[derive(Clone, Copy, PartialEq, Eq, Debug)]
 pub enum AssemblyError {
-    #[error("the length is zero, no multiple of the granule, or above the longest")]
     Length = 1,
-    #[error("the start is no multiple of the granule, or the bytes would end above 2^32")]
     Placement = 2,
-    #[error("the split or the shift is no multiple of the granule")]
     Boundary = 3,
 }
+
+impl fmt::Display for AssemblyError {
+    ghost output = { λ e. Some (assembly_error_text e) };
+
+    fn fmt<W: fmt::Write>(&self, f: &mut fmt::Formatter<W>) -> fmt::Result {
+        f.write_str(match self {
+            AssemblyError::Length => {
+                "the length is zero, no multiple of the granule, or above the longest"
+            }
+            AssemblyError::Placement => {
+                "the start is no multiple of the granule, or the bytes would end above 2^32"
+            }
+            AssemblyError::Boundary => "the split or the shift is no multiple of the granule",
+        })
+    }
+}
+
+impl Error for AssemblyError {}
 
 // The number of the refusal. Each enum that has numbers has its own, so there is no generic conversion.
 impl From<AssemblyError> for u8 {
@@ -46,11 +62,11 @@ pub fn check_range(start: u32, length: usize) -> Result<(), AssemblyError>
     Ok(())
 }
 
-// The start, if that many bytes can be covered from it on.
-pub(crate) fn checked_start(start: u32, length: usize) -> Option<u32>
-    ensures { result ≡ start_checked start length }
+// The start of the bytes, if they can be covered from it on.
+pub(crate) fn checked_start(start: u32, bytes: &[u8]) -> Option<u32>
+    ensures { result ≡ start_checked start (length bytes.now) }
 {
-    check_range(start, length).is_ok().then_some(start)
+    check_range(start, bytes.len()).is_ok().then_some(start)
 }
 
 // Whether a pair can be split, or a store shifted, at the address.

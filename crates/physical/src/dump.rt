@@ -20,7 +20,7 @@ impl<'a> Dump<'a> {
     {
         Dump {
             bytes,
-            start: checked_start(start, bytes.len()),
+            start: checked_start(start, bytes),
         }
     }
 

@@ -2,11 +2,12 @@
 
 #![tactic(auto)]
 
-ghost use Rattle.std.specs.Prelude.{◌≡◌};
+ghost use Rattle.std.specs.Prelude.{◌≡◌, Some};
 ghost use Rattle.physical.specs.Loans.{Loans, none};
-ghost use Rattle.physical.specs.Stores.{Values, Writable, dword, read_answer, reason_number, write_answer, written};
+ghost use Rattle.physical.specs.Stores.{Values, Writable, dword, memory_error_text, read_answer, reason_number, write_answer, written};
 
-use thiserror::Error;
+use std::error::Error;
+use std::fmt;
 
 pub mod checks;
 pub mod dump;
@@ -17,15 +18,26 @@ pub mod shift;
 pub mod writes;
 
 // Why a memory refuses a read or a write.
-#[derive(Clone, Copy, PartialEq, Eq, Debug, Error)]
+#[derive(Clone, Copy, PartialEq, Eq, Debug)]
 pub enum MemoryError {
     // There is no double-word at the address.
-    #[error("absent")]
     Absent = 1,
     // There is one, and it cannot be written.
-    #[error("read-only")]
     ReadOnly = 2,
 }
+
+impl fmt::Display for MemoryError {
+    ghost output = { λ e. Some (memory_error_text e) };
+
+    fn fmt<W: fmt::Write>(&self, f: &mut fmt::Formatter<W>) -> fmt::Result {
+        f.write_str(match self {
+            MemoryError::Absent => "absent",
+            MemoryError::ReadOnly => "read-only",
+        })
+    }
+}
+
+impl Error for MemoryError {}
 
 // The number of the reason. Each enum that has numbers has its own, so there is no generic conversion.
 impl From<MemoryError> for u8 {

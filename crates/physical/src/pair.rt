@@ -1,4 +1,4 @@
-// A pair of stores: the first below the split, the second from it on.
+// A pair of stores: the first below the split, the second from it on. A read and a write share that test, and no more.
 ghost use Rattle.std.specs.Prelude.{◌≡◌};
 ghost use Rattle.physical.specs.Checks.{boundary_dword};
 ghost use Rattle.physical.specs.Composed.{paired};

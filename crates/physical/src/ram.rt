@@ -25,7 +25,7 @@ impl<'a> Ram<'a> {
         ensures placed { result.start ≡ start_checked start (length bytes.old) }
         ensures lends { ram_loans result ≡ loan_checked start bytes.entry.ghost_name bytes.old }
     {
-        let start = checked_start(start, bytes.len());
+        let start = checked_start(start, bytes);
         Ram { bytes, start }
     }
 
@@ -54,7 +54,8 @@ impl<'a> Memory for Ram<'a> {
 
     ghost loans = { ram_loans };
 
-    // Besides what every memory shows: which bytes the caller has afterwards, in the slice that it lent.
+    // Besides what every memory shows, which an impl's own clauses have to say again: which bytes the caller has afterwards,
+    // in the slice that it lent.
     #[tactic(auto, using(crate::proofs::Blocks::placed_stored_at))]
     fn write(&mut self, address: u32, value: u32) -> WriteOutcome
         ensures answers { result ≡ write_answer (ram_values self.old (dword address)) (ram_writable self.old (dword address)) }

@@ -100,6 +100,7 @@ fn show_planned(rt: &HostRuntime, what: &str, write: &Write) -> anyhow::Result<(
     Ok(())
 }
 
+// The steps take what prints and what they show: two things, lent in different ways, so no struct of them.
 fn fill(rt: &HostRuntime, memory: &mut Machine<'_>) -> anyhow::Result<()> {
     println!(rt; "2. Write a two-level page table and a page of data.")?;
     println!(rt;
