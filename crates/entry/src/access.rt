@@ -19,7 +19,8 @@ pub enum AccessKind {
 }
 
 // The level of an access, 0 to 3. With the override set, a user's accesses count as the supervisor's. Levels are numbers
-// here and below: `permits` and `effective_protection` take any, and an entry's field can be put together too wide.
+// here and below: `permits` and `effective_protection` take any, and a field of `EntryFields` can be too wide, which
+// putting together refuses.
 pub fn access_level(mode: Mode, overridden: bool, kind: AccessKind) -> u8
     ensures { result ≡ access_level mode overridden kind }
 {

@@ -17,7 +17,7 @@ pub mod rom;
 pub mod shift;
 pub mod writes;
 
-// Why a memory refuses a read or a write.
+// Why a memory refuses a read or a write. Its text is a contract, which a derive would not state.
 #[derive(Clone, Copy, PartialEq, Eq, Debug)]
 pub enum MemoryError {
     // There is no double-word at the address.

@@ -11,7 +11,8 @@ pub struct Write {
     pub value: u32,
 }
 
-// Makes one write, and answers whether it was accepted.
+// Makes one write, and answers whether it was accepted. `keeps` and `lends` stand here and below again, since they relate
+// two states.
 fn write_one<M: Memory>(memory: &mut M, write: &Write) -> bool
     ensures accepted { result ≡ accepted (M.ReadableStore.values memory.old) (M.Memory.writable memory.old) write.now }
     ensures leaves { M.ReadableStore.values memory.new ≡ after_write (M.ReadableStore.values memory.old) (M.Memory.writable memory.old) write.now }

@@ -3,8 +3,9 @@
 
 #![tactic(auto)]
 
-ghost use Rattle.std.specs.Prelude.{◌≡◌, ◌/◌, true, false, IfOk, Some as Present};
+ghost use Rattle.std.specs.Prelude.{◌≡◌, ◌/◌, ◌++◌, true, false, IfOk, Some as Present, codes, decimal};
 ghost use Rattle.entry.specs.Fields.{encoded};
+ghost use Rattle.physical.specs.Stores.{memory_error_text, reason_number};
 
 use anyhow::Context;
 use entry::EntryFields;
@@ -197,6 +198,8 @@ fn find(rt: &HostRuntime, memory: &Machine<'_>) -> anyhow::Result<u32> {
 struct Refused(MemoryError);
 
 impl fmt::Display for Refused {
+    ghost output = { λ r. Present (codes "refused, reason " ++ decimal (reason_number r.0) ++ codes " (" ++ memory_error_text r.0 ++ codes ")") };
+
     fn fmt<W: fmt::Write>(&self, f: &mut fmt::Formatter<W>) -> fmt::Result {
         write!(f, "refused, reason {} ({})", u8::from(self.0), self.0)
     }
