@@ -1,5 +1,5 @@
 // The parts of a virtual address, and the addresses that a walk forms.
-ghost use Rattle.std.specs.Prelude.{◌≡◌, ◌*◌, ◌%◌};
+ghost use Rattle.std.specs.Prelude.{◌≡◌};
 ghost use Rattle.entry.specs.NS32382.{ns32382};
 
 // How many bytes a page, a frame and a table have.
@@ -69,7 +69,7 @@ pub fn physical_address(frame: u32, offset: u32) -> u32
 
 // Where a frame begins.
 fn frame_address(frame: u32) -> u32
-    ensures { result ≡ frame % 1048576 * 4096 }
+    ensures { result ≡ ns32382.physical frame 0 }
 {
     frame % FRAME_COUNT * PAGE_SIZE
 }

@@ -72,20 +72,3 @@ pub fn look_up<S: ReadableStore>(store: &S, base: u32, address: u32) -> Result<F
         physical: physical_address(frame(second.entry), offset(address)),
     })
 }
-
-#[cfg(test)]
-mod tests {
-    use crate::Miss;
-    use std::test::Fail;
-
-    #[test]
-    fn misses_say_what_is_wrong(rt: HostRuntime) -> Result<(), Fail> {
-        for (miss, text) in [
-            (Miss::Absent(0x1004), "an entry is absent"),
-            (Miss::Invalid(0x1004), "an entry is invalid"),
-        ] {
-            assert_eq!(rt; miss.to_string(rt.alloc())?.as_str(), text);
-        }
-        Ok(())
-    }
-}
