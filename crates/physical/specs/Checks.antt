@@ -44,6 +44,11 @@ range_rule s n = if length_ok n then (if start_ok s n then 0 else 2) else 1
 abbrev pub start_checked : ℕ → ℕ → Option ℕ
 start_checked s n = if range_rule s n == 0 then Some s else None
 
+-- a start as it was given, `Ok` where the check passes it
+abbrev pub given_start : Result ℕ ℕ → ℕ
+given_start (Ok s) = s
+given_start (Err s) = s
+
 -- 3 for a split or a shift
 abbrev pub boundary_rule : ℕ → ℕ
 boundary_rule a = if is_multiple a then 0 else 3

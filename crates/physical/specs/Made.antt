@@ -1,5 +1,6 @@
 -- What the stores over lent bytes hold.
 use Rattle.std.specs.Prelude.{ℕ, ◌-◌, ◌*◌, true, false, List, length, is_some, Some, None, Option, if◌then◌else◌}
+use Rattle.std.specs.Result.{result_ok}
 use Rattle.physical.specs.Stores.{Values, Writable, dword}
 use Rattle.physical.specs.Loans.{Loans, laid_out, left_alone}
 use Rattle.physical.specs.Bytes.{absent, laid, stored}
@@ -32,16 +33,16 @@ abbrev pub nowhere : Writable
 nowhere q = false
 
 abbrev pub ram_values : Ram → Values
-ram_values s = placed s.start s.bytes.now
+ram_values s = placed (result_ok s.start) s.bytes.now
 
 abbrev pub ram_writable : Ram → Writable
 ram_writable s = everywhere
 
 abbrev pub ram_loans : Ram → Loans
-ram_loans s = placed_loan s.start s.bytes.ghost_name s.bytes.now
+ram_loans s = placed_loan (result_ok s.start) s.bytes.ghost_name s.bytes.now
 
 abbrev pub ram_stored : Ram → ℕ → ℕ → List ℕ
-ram_stored s address v = placed_stored s.start s.bytes.now address v
+ram_stored s address v = placed_stored (result_ok s.start) s.bytes.now address v
 
 abbrev pub dump_values : Dump → Values
 dump_values s = placed s.start s.bytes.now

@@ -1,7 +1,9 @@
 // RAM: memory over bytes that the caller lends, writable throughout.
 ghost use Rattle.std.specs.Prelude.{◌≡◌, ◌+◌, ◌≤◌, length};
+ghost use Rattle.std.specs.Option.{ok_or};
+ghost use Rattle.std.specs.Result.{result_ok};
 ghost use Rattle.physical.specs.Bytes.{laid_checked, stored};
-ghost use Rattle.physical.specs.Checks.{start_checked};
+ghost use Rattle.physical.specs.Checks.{given_start, start_checked};
 ghost use Rattle.physical.specs.Loans.{loan_checked};
 ghost use Rattle.physical.specs.Made.{ram_loans, ram_stored, ram_values, ram_writable};
 ghost use Rattle.physical.specs.Stores.{dword, write_answer, written};
@@ -13,8 +15,8 @@ use crate::{Memory, MemoryError, ReadableStore, WriteOutcome};
 #[derive(Drop)]
 pub struct Ram<'a> {
     bytes: &'a mut [u8],
-    // The address of the first byte, where the check passes it. Where it does not, the bytes are never touched.
-    start: Option<u32>,
+    // The address of the first byte, `Ok` where the check passes it. Where it does not, the bytes are never touched.
+    start: Result<u32, u32>,
 }
 
 impl<'a> Ram<'a> {
@@ -22,21 +24,24 @@ impl<'a> Ram<'a> {
         ensures values { ram_values result ≡ laid_checked start bytes.old }
         ensures bytes { result.bytes.now ≡ bytes.old }
         ensures named { result.bytes.ghost_name ≡ bytes.entry.ghost_name }
-        ensures placed { result.start ≡ start_checked start (length bytes.old) }
+        ensures placed { result.start ≡ ok_or (start_checked start (length bytes.old)) start }
+        ensures given { given_start result.start ≡ start }
         ensures lends { ram_loans result ≡ loan_checked start bytes.entry.ghost_name bytes.old }
     {
-        let start = checked_start(start, bytes);
-        Ram { bytes, start }
+        Ram {
+            start: checked_start(start, bytes).ok_or(start),
+            bytes,
+        }
     }
 
     // The bytes, to be read.
     fn dump(&self) -> Dump<'_>
-        ensures start { result.start ≡ self.now.start }
+        ensures start { result.start ≡ result_ok self.now.start }
         ensures bytes { result.bytes.now ≡ self.now.bytes.now }
     {
         Dump {
             bytes: self.bytes,
-            start: self.start,
+            start: self.start.ok(),
         }
     }
 }
