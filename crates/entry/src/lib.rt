@@ -25,16 +25,16 @@ pub mod operations;
 // Which of the two tables an entry stands in.
 #[derive(Clone, Copy, PartialEq, Eq, Debug)]
 pub enum TableLevel {
-    First = 1,
-    Second = 2,
+    First,
+    Second,
 }
 
-// The level as a number. Each enum that has numbers has its own, so there is no generic conversion.
+// The level as a number, from 1 on. Each enum that has numbers has its own, so there is no generic conversion.
 impl From<TableLevel> for u8 {
     ghost from_gives = { λ level n. n ≡ level_number level };
 
     fn from(level: TableLevel) -> u8 {
-        level as u8
+        level as u8 + 1
     }
 }
 

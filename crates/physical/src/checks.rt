@@ -16,9 +16,9 @@ const ADDRESS_SPACE: u64 = 1 << 32;
 // Why a memory cannot be assembled as asked.
 #[derive(Clone, Copy, PartialEq, Eq, Debug)]
 pub enum AssemblyError {
-    Length = 1,
-    Placement = 2,
-    Boundary = 3,
+    Length,
+    Placement,
+    Boundary,
 }
 
 impl fmt::Display for AssemblyError {
@@ -39,12 +39,12 @@ impl fmt::Display for AssemblyError {
 
 impl Error for AssemblyError {}
 
-// The number of the refusal. Each enum that has numbers has its own, so there is no generic conversion.
+// The number of the refusal, from 1 on. Each enum that has numbers has its own, so there is no generic conversion.
 impl From<AssemblyError> for u8 {
     ghost from_gives = { λ e n. n ≡ assembly_number e };
 
     fn from(error: AssemblyError) -> u8 {
-        error as u8
+        error as u8 + 1
     }
 }
 

@@ -21,9 +21,9 @@ pub mod writes;
 #[derive(Clone, Copy, PartialEq, Eq, Debug)]
 pub enum MemoryError {
     // There is no double-word at the address.
-    Absent = 1,
+    Absent,
     // There is one, and it cannot be written.
-    ReadOnly = 2,
+    ReadOnly,
 }
 
 impl fmt::Display for MemoryError {
@@ -39,12 +39,12 @@ impl fmt::Display for MemoryError {
 
 impl Error for MemoryError {}
 
-// The number of the reason. Each enum that has numbers has its own, so there is no generic conversion.
+// The number of the reason, from 1 on. Each enum that has numbers has its own, so there is no generic conversion.
 impl From<MemoryError> for u8 {
     ghost from_gives = { λ e n. n ≡ reason_number e };
 
     fn from(error: MemoryError) -> u8 {
-        error as u8
+        error as u8 + 1
     }
 }
 
