@@ -7,7 +7,7 @@ ghost use Rattle.std.specs.Prelude.{◌≡◌, ◌/◌, ◌++◌, true, false, I
 ghost use Rattle.entry.specs.Fields.{encoded};
 ghost use Rattle.physical.specs.Stores.{memory_error_text, reason_number};
 
-use anyhow::Context;
+use anyhow::anyhow;
 use entry::EntryFields;
 use entry::geometry::{
     PAGE_SIZE, first_entry_address, first_index, offset, page_number, second_entry_address,
@@ -21,7 +21,7 @@ use physical::ram::Ram;
 use physical::rom::Rom;
 use physical::shift::Shift;
 use physical::writes::{Write, write_all};
-use physical::{Memory, MemoryError, ReadableStore};
+use physical::{Memory, MemoryError, ReadableStore, WriteOutcome};
 use std::fmt;
 
 // The RAM below 32,768, nothing up to 65,536, and the ROM from there on.
@@ -120,7 +120,7 @@ fn fill(rt: &HostRuntime, memory: &mut Machine<'_>) -> anyhow::Result<()> {
     show_planned(rt, "second entry, to the frame", &second)?;
     let accepted = write_all(memory, &[first, second]);
     println!(rt; "   accepted: {accepted} of 2 writes")?;
-    fill_page(memory)?;
+    fill_page(memory).map_err(|_| anyhow!("the page cannot be written"))?;
     println!(rt;
         "   page of data: 1024 double-words, the low waters of as many harbours in centimetres,"
     )?;
@@ -128,11 +128,10 @@ fn fill(rt: &HostRuntime, memory: &mut Machine<'_>) -> anyhow::Result<()> {
     Ok(())
 }
 
-fn fill_page(memory: &mut Machine<'_>) -> anyhow::Result<()> {
+// It answers as the memory does, and `fill` makes the error: an error of the tour is large, and would be moved at each write.
+fn fill_page(memory: &mut Machine<'_>) -> WriteOutcome {
     for i in 0..1024u32 {
-        memory
-            .write(DATA_FRAME + 4 * i, FIRST_LOW + i)
-            .context("the page cannot be written")?;
+        memory.write(DATA_FRAME + 4 * i, FIRST_LOW + i)?;
     }
     Ok(())
 }
