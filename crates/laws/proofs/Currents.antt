@@ -31,7 +31,10 @@ pub record Current (l : Layout) (base : ℕ) (m : Values) (t : Translation) : Ty
   pub inhibit : t.inhibit ≡ l.inhibit Second second
   pub modified : t.modified ≡ true → 0 < t.protection → l.modified Second second ≡ true
 
-used_from : (l : Layout) (a : ℕ) (m : Values) (e : ℕ) → used_entry l a m ≡ Some e → Used l a m e
+pub used_is : (l : Layout) (a : ℕ) (m : Values) (e : ℕ) → Used l a m e → used_entry l a m ≡ Some e
+used_is l a m e u = rw (u.reads, u.valid, u.referenced) refl
+
+pub used_from : (l : Layout) (a : ℕ) (m : Values) (e : ℕ) → used_entry l a m ≡ Some e → Used l a m e
 used_from l a m e h = record { reads = grind arith; valid = grind arith; referenced = grind arith }
 
 -- where the two entries of a translation lie now, and what they give

@@ -23,7 +23,7 @@ pub record Passes (l : Layout) (level a : ℕ) (m : Values) (e : ℕ) : Type 0 w
   pub valid : l.valid e ≡ true
   pub permitted : permits (l.protection e) level ≡ true
 
-passes : (l : Layout) (t : TableLevel) (level a : ℕ) (m : Values) (e : ℕ) → passed l t level a (m (dword a)) ≡ Ok e → Passes l level a m e
+pub passes : (l : Layout) (t : TableLevel) (level a : ℕ) (m : Values) (e : ℕ) → passed l t level a (m (dword a)) ≡ Ok e → Passes l level a m e
 passes l t level a m e h = record { reads = grind arith; valid = grind arith; permitted = grind arith }
 
 -- a mark that was made, or was there

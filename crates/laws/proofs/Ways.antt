@@ -32,11 +32,11 @@ pub record Asks (mode kind address : ℕ) (q : Request) : Type 0 where
   pub listed : (nat_le mode 1 && nat_le kind 2) ≡ true
   pub request : access_request mode kind address ≡ Ok q
 
-data AccessRead (mode kind address : ℕ) : Type 0 where
+pub data AccessRead (mode kind address : ℕ) : Type 0 where
   unlisted : (nat_le mode 1 && nat_le kind 2) ≡ false → access_request mode kind address ≡ Err BadAccess → AccessRead mode kind address
   listed_as : (q : Request) → Asks mode kind address q → AccessRead mode kind address
 
-access_read : (mode kind address : ℕ) → AccessRead mode kind address
+pub access_read : (mode kind address : ℕ) → AccessRead mode kind address
 access_read mode kind address = on (mode_of mode) refl (kind_of kind) refl
   where
     on : (m : Option Mode) → mode_of mode ≡ m → (k : Option AccessKind) → kind_of kind ≡ k → AccessRead mode kind address

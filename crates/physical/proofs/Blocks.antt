@@ -22,7 +22,7 @@ module _ (bs : List ℕ) (i v : ℕ) where
   length_stored = simp length-set
 
 -- to store one double-word among the bytes is to write it, and it alone
-laid_stored : (start k v i : ℕ) (bs : List ℕ) → k * 4 ≡ start + i → i + 4 ≤ length bs → v < 4294967296 → laid start (stored bs i v) ≡ written (laid start bs) everywhere k v
+pub laid_stored : (start k v i : ℕ) (bs : List ℕ) → k * 4 ≡ start + i → i + 4 ≤ length bs → v < 4294967296 → laid start (stored bs i v) ≡ written (laid start bs) everywhere k v
 laid_stored start k v i bs at fits small = fun_ext (λ q.
     let here = stored_same bs i v fits small in
     let n = length_stored bs i v in
