@@ -31,6 +31,7 @@ pub record Current (l : Layout) (base : ℕ) (m : Values) (t : Translation) : Ty
   pub inhibit : t.inhibit ≡ l.inhibit Second second
   pub modified : t.modified ≡ true → 0 < t.protection → l.modified Second second ≡ true
 
+-- a public name, whose statement no other lemma has
 pub used_is : (l : Layout) (a : ℕ) (m : Values) (e : ℕ) → Used l a m e → used_entry l a m ≡ Some e
 used_is l a m e u = rw (u.reads, u.valid, u.referenced) refl
 

@@ -15,7 +15,8 @@ use crate::{Memory, MemoryError, ReadableStore, WriteOutcome};
 #[derive(Drop)]
 pub struct Ram<'a> {
     bytes: &'a mut [u8],
-    // The address of the first byte, `Ok` where the check passes it. Where it does not, the bytes are never touched.
+    // The address of the first byte: `Ok` where the check passes it, else `Err` of what was given, and the bytes are never
+    // touched.
     start: Result<u32, u32>,
 }
 

@@ -128,7 +128,8 @@ fn fill(rt: &HostRuntime, memory: &mut Machine<'_>) -> anyhow::Result<()> {
     Ok(())
 }
 
-// It answers as the memory does, and `fill` makes the error: an error of the tour is large, and would be moved at each write.
+// It answers as the memory does, and `fill` makes the error: a result that can hold an error of the tour is large, and in the
+// loop it would be moved at each write.
 fn fill_page(memory: &mut Machine<'_>) -> WriteOutcome {
     for i in 0..1024u32 {
         memory.write(DATA_FRAME + 4 * i, FIRST_LOW + i)?;
